@@ -1,0 +1,15 @@
+pub mod Bench
+pub mod Values
+pub mod Lists
+pub mod Justification
+pub mod Shapes
+pub mod Gate
+pub mod Spread
+pub mod Evaluate
+pub mod Cone
+pub mod Turns
+pub mod Source001
+pub mod Survey
+pub mod Moves
+pub mod Trace
+pub mod Finish

@@ -1,0 +1,9 @@
+pub mod Tools
+pub mod Gate
+pub mod Circuit
+pub mod Evaluate
+pub mod Survey
+pub mod Run
+pub mod Source001
+pub mod Promise
+pub mod Bench
