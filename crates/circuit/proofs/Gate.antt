@@ -4,94 +4,64 @@ use Prim.Native.Nat.{ℕ, _≤_}
 use mathlib.Core.Path.{_≡_, refl, sym, ap, _∙_}
 use mathlib.Core.Logic.{_⊎_, inl, inr, _↔_}
 use mathlib.Core.Bool.{Bool, true, false, cond, not, true≢false, false≢true}
-use mathlib.Core.List.{List, [], _∷_, map, map-id}
+use mathlib.Core.List.{List, [], _∷_, map}
 use mathlib.Core.List.{List·Memᴰ as In, List·Memᴰ·head as here, List·Memᴰ·tail as there, List·Memᴰ·cases-cons as cases, List·Memᴰ·not-nil as nowhere}
 use native.Mathlib.Omega.{arith}
 use lib.ListN.{length}
 use lib.Dec.{leb}
 use borrow.Author.Tests.{eqb-true, leb-true}
 use Rattle.folds.specs.Folds.{_and_}
-use Rattle.folds.proofs.Tests.{which, and-left, and-right, and-both, and-first-false, and-second-false, and-past, or-cases, or-first, or-second, or-past, or-left-false, or-right-false}
+use Rattle.folds.proofs.Tests.{which, and-left, and-right, and-first-false, and-second-false, and-past, or-cases, or-first, or-second}
 use Rattle.circuit.specs.Tools.{same, Rising, singles}
 use Rattle.circuit.specs.Gate.{Kind, Input, Not, And, Or, Xor, isInput, fanInFits, allOn, someOn, oddOn, gives, relevant, wrong, options}
 use Rattle.circuit.specs.Source001.{Functions}
 use Rattle.circuit.proofs.Values.{agree, not-not, unequal, same-refl, same-swap, same-not}
 use Rattle.circuit.proofs.Lists.{select-in, select-length, select-same, select-one, singles-in, singles-out}
-use Rattle.circuit.proofs.Justification.{flip, flip-self, flip-other}
+use Rattle.circuit.proofs.Justification.{flip, flip-self, flip-other, One, all-other, other-all}
 use Rattle.circuit.proofs.Shapes.{Laws, Narrow, apart, one-laws, each-laws}
 
--- ---- all, or some, of the children are at 1
+-- ---- AND and OR: one value decides
 
-all-on : {A : Type 0} (τ : A → Bool) (xs : List A) → allOn (map τ xs) ≡ true → (x : A) → In x xs → τ x ≡ true
-all-on τ [] e x m = absurd (nowhere m)
-all-on τ (y ∷ ys) e x m = elim (cases m) [
-  | inl q ↦ ap τ q ∙ and-left (τ y) (allOn (map τ ys)) e
-  | inr n ↦ all-on τ ys (and-right (τ y) (allOn (map τ ys)) e) x n
-]
+and-one : One allOn false
+and-one vs = (to vs, from vs)
+  where
+    to : (ws : List Bool) → allOn ws ≡ false → In false ws
+    to [] e = absurd (true≢false e)
+    to (w ∷ ws) e = elim (which w) [ inl q ↦ there (to ws (sym (and-past w (allOn ws) q) ∙ e)) | inr q ↦ here (sym q) ]
 
-on-all : {A : Type 0} (τ : A → Bool) (xs : List A) → ((x : A) → In x xs → τ x ≡ true) → allOn (map τ xs) ≡ true
-on-all τ [] f = refl
-on-all τ (y ∷ ys) f = and-both (τ y) (allOn (map τ ys)) (f y (here refl)) (on-all τ ys (λ x m. f x (there m)))
+    from : (ws : List Bool) → In false ws → allOn ws ≡ false
+    from [] m = absurd (nowhere m)
+    from (w ∷ ws) m = elim (cases m) [ inl e ↦ and-first-false w (allOn ws) (sym e) | inr n ↦ and-second-false w (allOn ws) (from ws n) ]
 
-some-off : {A : Type 0} (τ : A → Bool) (xs : List A) → allOn (map τ xs) ≡ false → (x : A) × In x xs × (τ x ≡ false)
-some-off τ [] e = absurd (true≢false e)
-some-off τ (y ∷ ys) e = elim (which (τ y)) [
-  | inl q ↦ (let (x, m, f) = some-off τ ys (sym (and-past (τ y) (allOn (map τ ys)) q) ∙ e) in (x, there m, f))
-  | inr q ↦ (y, here refl, q)
-]
+or-one : One someOn true
+or-one vs = (to vs, from vs)
+  where
+    to : (ws : List Bool) → someOn ws ≡ true → In true ws
+    to [] e = absurd (false≢true e)
+    to (w ∷ ws) e = elim (or-cases w (someOn ws) e) [ inl q ↦ here (sym q) | inr q ↦ there (to ws q) ]
 
-off-some : {A : Type 0} (τ : A → Bool) (xs : List A) (x : A) → In x xs → τ x ≡ false → allOn (map τ xs) ≡ false
-off-some τ [] x m e = absurd (nowhere m)
-off-some τ (y ∷ ys) x m e = elim (cases m) [
-  | inl q ↦ and-first-false (τ y) (allOn (map τ ys)) (sym (ap τ q) ∙ e)
-  | inr n ↦ and-second-false (τ y) (allOn (map τ ys)) (off-some τ ys x n e)
-]
+    from : (ws : List Bool) → In true ws → someOn ws ≡ true
+    from [] m = absurd (nowhere m)
+    from (w ∷ ws) m = elim (cases m) [ inl e ↦ or-first w (someOn ws) (sym e) | inr n ↦ or-second w (someOn ws) (from ws n) ]
 
-some-on : {A : Type 0} (τ : A → Bool) (xs : List A) → someOn (map τ xs) ≡ true → (x : A) × In x xs × (τ x ≡ true)
-some-on τ [] e = absurd (false≢true e)
-some-on τ (y ∷ ys) e = elim (or-cases (τ y) (someOn (map τ ys)) e) [
-  | inl q ↦ (y, here refl, q)
-  | inr q ↦ (let (x, m, f) = some-on τ ys q in (x, there m, f))
-]
+-- AND at 1, OR at 0: the value that does not decide, so that all children must have it
+module _ (k : Kind) (v : Bool) (narrow : Narrow k) (one : One (gives k) v)
+    (counts : (b : Bool) → relevant k (not v) b ≡ true)
+    (option : (at : ℕ → Bool) (xs : List ℕ) → options k (not v) at xs ≡ wrong (not v) at xs ∷ []) where
+  apart-wrong : (τ at : ℕ → Bool) (xs : List ℕ) → ((x : ℕ) → In x xs → τ x ≡ not v) → apart τ at xs ≡ wrong (not v) at xs
+  apart-wrong τ at xs f = select-same _ _ xs (λ x m. rw (f x m, same-swap (not v) (at x)))
 
-on-some : {A : Type 0} (τ : A → Bool) (xs : List A) (x : A) → In x xs → τ x ≡ true → someOn (map τ xs) ≡ true
-on-some τ [] x m e = absurd (nowhere m)
-on-some τ (y ∷ ys) x m e = elim (cases m) [
-  | inl q ↦ or-first (τ y) (someOn (map τ ys)) (sym (ap τ q) ∙ e)
-  | inr n ↦ or-second (τ y) (someOn (map τ ys)) (on-some τ ys x n e)
-]
-
-all-off : {A : Type 0} (τ : A → Bool) (xs : List A) → someOn (map τ xs) ≡ false → (x : A) → In x xs → τ x ≡ false
-all-off τ [] e x m = absurd (nowhere m)
-all-off τ (y ∷ ys) e x m = elim (cases m) [
-  | inl q ↦ ap τ q ∙ or-left-false (τ y) (someOn (map τ ys)) e
-  | inr n ↦ all-off τ ys (or-right-false (τ y) (someOn (map τ ys)) e) x n
-]
-
-off-all : {A : Type 0} (τ : A → Bool) (xs : List A) → ((x : A) → In x xs → τ x ≡ false) → someOn (map τ xs) ≡ false
-off-all τ [] f = refl
-off-all τ (y ∷ ys) f = or-past (τ y) (someOn (map τ ys)) (f y (here refl)) ∙ off-all τ ys (λ x m. f x (there m))
-
--- ---- AND at 1, OR at 0: all children must have the gate's value
-
-module _ (k : Kind) (v : Bool) (narrow : Narrow k)
-    (to : (τ : ℕ → Bool) (xs : List ℕ) → gives k (map τ xs) ≡ v → (x : ℕ) → In x xs → τ x ≡ v)
-    (from : (τ : ℕ → Bool) (xs : List ℕ) → ((x : ℕ) → In x xs → τ x ≡ v) → gives k (map τ xs) ≡ v)
-    (counts : (b : Bool) → relevant k v b ≡ true)
-    (option : (at : ℕ → Bool) (xs : List ℕ) → options k v at xs ≡ wrong v at xs ∷ []) where
-  apart-wrong : (τ at : ℕ → Bool) (xs : List ℕ) → ((x : ℕ) → In x xs → τ x ≡ v) → apart τ at xs ≡ wrong v at xs
-  apart-wrong τ at xs f = select-same _ _ xs (λ x m. rw (f x m, same-swap v (at x)))
-
-  uniform : Laws k v
-  uniform = each-laws k v narrow
-      (λ τ xs x r m e d. unequal (τ x) v (to τ xs e x m) (rw (flip-self τ x) at (to (flip x τ) xs d x m)))
+  uniform : Laws k (not v)
+  uniform = each-laws k (not v) narrow
+      (λ τ xs x r m e d.
+      unequal (τ x) (not v) (all-other (gives k) v one τ xs e x m) (rw (flip-self τ x) at (all-other (gives k) v one (flip x τ) xs d x m)))
       counts
       (λ at xs e o. (
         λ m. elim (cases (rw (option at xs) at m)) [
-          | inl q ↦ (λ x. v, from (λ x. v) xs (λ x i. refl), q ∙ sym (apart-wrong (λ x. v) at xs (λ x i. refl)))
+          | inl q ↦ (λ x. not v, other-all (gives k) v one (λ x. not v) xs (λ x i. refl), q ∙ sym (apart-wrong (λ x. not v) at xs (λ x i. refl)))
           | inr z ↦ absurd (nowhere z)
         ],
-        λ t. rw (option at xs) (here (t .2 ∙ apart-wrong (t .0) at xs (to (t .0) xs (t .1)))),
+        λ t. rw (option at xs) (here (t .2 ∙ apart-wrong (t .0) at xs (all-other (gives k) v one (t .0) xs (t .1)))),
       ))
       (λ at xs. inr (option at xs))
 
@@ -179,10 +149,10 @@ narrow Xor i = λ n e. omega (arith, eqb-true n 2 e)
 pub laws : (k : Kind) (v : Bool) → isInput k ≡ false → Laws k v
 laws Input v i = absurd (true≢false i)
 laws Not v i = parity Not v false (narrow Not i) (λ vs. refl) (λ b. refl) (λ at xs. refl) (λ n e. omega (arith, eqb-true n 1 e))
-laws And true i = uniform And true (narrow And i) all-on on-all (λ b. refl) (λ at xs. refl)
-laws And false i = one-laws And false (narrow And i) (record { some-child = some-off; enough = off-some }) (λ b. refl) (λ at xs. refl)
-laws Or true i = one-laws Or true (narrow Or i) (record { some-child = some-on; enough = on-some }) (λ b. refl) (λ at xs. refl)
-laws Or false i = uniform Or false (narrow Or i) all-off off-all (λ b. refl) (λ at xs. refl)
+laws And true i = uniform And false (narrow And i) and-one (λ b. refl) (λ at xs. refl)
+laws And false i = one-laws And false (narrow And i) and-one (λ b. refl) (λ at xs. refl)
+laws Or true i = one-laws Or true (narrow Or i) or-one (λ b. refl) (λ at xs. refl)
+laws Or false i = uniform Or true (narrow Or i) or-one (λ b. refl) (λ at xs. refl)
 laws Xor v i = parity Xor v true (narrow Xor i) (λ vs. refl) (λ b. refl) (λ at xs. refl) (λ n e. omega (arith, eqb-true n 2 e))
 
 -- an input has no relevant child
@@ -205,10 +175,11 @@ xor-to true false = (λ e. inl (refl, refl), λ p. refl)
 xor-to false true = (λ e. inr (refl, refl), λ p. refl)
 xor-to false false = (λ e. absurd (false≢true e), elim [ inl p ↦ absurd (false≢true (p .0)) | inr p ↦ absurd (false≢true (p .1)) ])
 
+and-is-all : (vs : List Bool) → (allOn vs ≡ true) ↔ ((b : Bool) → In b vs → b ≡ true)
+and-is-all vs = (
+  λ e b m. elim (which b) [ inl q ↦ q | inr q ↦ absurd (true≢false (sym e ∙ and-one vs .1 (rw q at m))) ],
+  λ f. elim (which (allOn vs)) [ inl q ↦ q | inr q ↦ absurd (false≢true (f false (and-one vs .0 q))) ],
+)
+
 pub functions : Functions
-functions = record {
-  not-is = not-to;
-  or-is = λ vs. (λ e. (let (x, m, q) = some-on (λ b. b) vs (rw map-id e) in rw q at m), λ m. rw map-id at (on-some (λ b. b) vs true m refl));
-  and-is = λ vs. (λ e. all-on (λ b. b) vs (rw map-id e), λ f. rw map-id at (on-all (λ b. b) vs f));
-  xor-is = xor-to;
-}
+functions = record { not-is = not-to; or-is = or-one; and-is = and-is-all; xor-is = xor-to }

@@ -4,11 +4,11 @@
 -- Assumes nothing.
 use Prim.Native.Nat.{ℕ, _≤_}
 use mathlib.Core.Path.{_≡_, refl, sym, ap, _∙_}
-use mathlib.Core.Logic.{_⊎_, inl, inr}
+use mathlib.Core.Logic.{_⊎_, inl, inr, _↔_}
 use mathlib.Core.Bool.{Bool, true, cond, not}
 use mathlib.Core.Option.{Option, none, some}
 use mathlib.Core.List.{List, map}
-use mathlib.Core.List.{List·Memᴰ as In}
+use mathlib.Core.List.{List·Memᴰ as In, Memᴰ·map as map-in, Memᴰ·of-map as of-map}
 use mathlib.Core.List.{Sublistᴰ as Sub}
 use native.Mathlib.Omega.{arith}
 use lib.ListN.{length}
@@ -17,7 +17,7 @@ use borrow.Author.Tests.{eqb-true, eq-eqb, ne-eqb}
 use Rattle.folds.proofs.Tests.{which}
 use Rattle.circuit.specs.Tools.{same, member, Rising, isEmpty}
 use Rattle.circuit.specs.Source001.{Partial, Has, Extends, restrict, Justification, Minimal, contrary, turns, MoveOf}
-use Rattle.circuit.proofs.Values.{unequal, same-true}
+use Rattle.circuit.proofs.Values.{agree, unequal, same-true}
 use Rattle.circuit.proofs.Lists.{map-same, in-select, select-sub, isEmpty-none, some-length, member-in, in-member}
 
 -- ---- partial assignments
@@ -78,12 +78,28 @@ flip-other τ x y n = rw (ne-eqb y x n)
 
 -- ---- justifications
 
-pub record One (f : List Bool → Bool) (v : Bool) : Type 0 where
-  pub some-child : (τ : ℕ → Bool) (xs : List ℕ) → f (map τ xs) ≡ v → (x : ℕ) × In x xs × (τ x ≡ v)
-  pub enough : (τ : ℕ → Bool) (xs : List ℕ) (x : ℕ) → In x xs → τ x ≡ v → f (map τ xs) ≡ v
+abbrev pub One : (List Bool → Bool) → Bool → Type 0
+One f v = (vs : List Bool) → (f vs ≡ v) ↔ In v vs
 
 abbrev pub Each : (List Bool → Bool) → Bool → Type 0
 Each f v = (τ : ℕ → Bool) (xs : List ℕ) (x : ℕ) → Rising xs → In x xs → f (map τ xs) ≡ v → f (map (flip x τ) xs) ≡ v → ⊥
+
+module _ (f : List Bool → Bool) (v : Bool) (h : One f v) (τ : ℕ → Bool) (xs : List ℕ) where
+  pub some-child : f (map τ xs) ≡ v → (x : ℕ) × In x xs × (τ x ≡ v)
+  some-child e = of-map τ xs (h (map τ xs) .0 e)
+
+  pub enough : (x : ℕ) → In x xs → τ x ≡ v → f (map τ xs) ≡ v
+  enough x m e = h (map τ xs) .1 (rw e at (map-in τ m))
+
+  -- for the other value, all children must have it
+  pub all-other : f (map τ xs) ≡ not v → (x : ℕ) → In x xs → τ x ≡ not v
+  all-other e x m = elim (agree v (τ x)) [ inl q ↦ absurd (unequal v v refl (sym e ∙ enough x m q)) | inr q ↦ q ]
+
+  pub other-all : ((x : ℕ) → In x xs → τ x ≡ not v) → f (map τ xs) ≡ not v
+  other-all g = elim (agree v (f (map τ xs))) [
+    | inl q ↦ (let (x, m, e) = some-child q in absurd (unequal v v refl (sym (g x m) ∙ e)))
+    | inr q ↦ q
+  ]
 
 module _ (f : List Bool → Bool) (v : Bool) (xs : List ℕ) where
   pub restrict-justifies : (τ : ℕ → Bool) → f (map τ xs) ≡ v → Justification f xs v (restrict τ xs)
@@ -114,7 +130,7 @@ module _ (f : List Bool → Bool) (v : Bool) (xs : List ℕ) where
   module _ (h : One f v) where
     meets : (σ : Partial) → Justification f xs v σ → (x : ℕ) × In x xs × Has σ x v
     meets σ j =
-        let (x, m, q) = h .some-child (fill σ (λ y. not v)) xs (j .forces _ (fill-extends σ (λ y. not v))) in
+        let (x, m, q) = some-child f v h (fill σ (λ y. not v)) xs (j .forces _ (fill-extends σ (λ y. not v))) in
         elim (has-or-not (σ x)) [
           | inl n ↦ absurd (unequal v v refl (rw n at q))
           | inr w ↦ (x, m, w .1 ∙ ap some (rw (w .1) at q))
@@ -123,7 +139,7 @@ module _ (f : List Bool → Bool) (v : Bool) (xs : List ℕ) where
     one-justifies : (x : ℕ) → In x xs → Justification f xs v (just x v)
     one-justifies x m = record {
       children = λ y b e. rw (just-has x v y b e .0) m;
-      forces = λ τ g. h .enough τ xs x m (g x v (just-at x v));
+      forces = λ τ g. enough f v h τ xs x m (g x v (just-at x v));
     }
 
     pub one-minimal : (x : ℕ) → In x xs → Minimal f xs v (just x v)

@@ -13,9 +13,9 @@ use borrow.Author.Tests.{not-true}
 use Rattle.circuit.specs.Tools.{same, singles, select}
 use Rattle.circuit.specs.Gate.{Kind, fanInFits, gives, relevant, wrong, options}
 use Rattle.circuit.specs.Source001.{Partial, Has, restrict, TakesPart, turns, MoveOf, Seen}
-use Rattle.circuit.proofs.Values.{agree, opposite, unequal, same-true, same-false, same-refl, same-swap, same-not}
+use Rattle.circuit.proofs.Values.{opposite, same-true, same-false, same-refl, same-swap, same-not}
 use Rattle.circuit.proofs.Lists.{map-same, select-in, select-same, select-one, singles-in, singles-out, singles-length}
-use Rattle.circuit.proofs.Justification.{has-or-not, fill, fill-extends, restrict-at, restrict-has, just, just-at, just-has, One, Each, move-sound, one-minimal, one-only, total, each-minimal}
+use Rattle.circuit.proofs.Justification.{has-or-not, fill, fill-extends, restrict-at, restrict-has, just, just-at, just-has, One, some-child, enough, all-other, Each, move-sound, one-minimal, one-only, total, each-minimal}
 
 -- The laws of a kind of gate at a value v.
 --     force     the relevant children's values force the gate's value
@@ -47,18 +47,11 @@ apart τ at xs = select (λ x. not (same (τ x) (at x))) xs
 module _ (k : Kind) (v : Bool) (narrow : Narrow k) (h : One (gives k) v)
     (counts : (b : Bool) → relevant k v b ≡ same b v)
     (option : (at : ℕ → Bool) (xs : List ℕ) → options k v at xs ≡ singles xs) where
-  -- no child of an unjustified gate has the value
-  other-value : (at : ℕ → Bool) (xs : List ℕ) → Seen k at xs (not v) → (x : ℕ) → In x xs → at x ≡ not v
-  other-value at xs e x m = elim (agree v (at x)) [
-    | inl q ↦ absurd (unequal v v refl (sym (e .gave) ∙ h .enough at xs x m q))
-    | inr q ↦ q
-  ]
-
   -- the move of a justification that has just child x
   turns-one : (at : ℕ → Bool) (xs : List ℕ) → Seen k at xs (not v) → (σ : Partial) (x : ℕ) → In x xs → Has σ x v → ((y : ℕ) (b : Bool) → Has σ y b → y ≡ x)
       → turns σ at xs ≡ x ∷ []
   turns-one at xs e σ x m w f = select-one _ xs x (e .rising) m
-      (rw (w, other-value at xs e x m, same-swap v (not v), same-not v))
+      (rw (w, all-other (gives k) v h at xs (e .gave) x m, same-swap v (not v), same-not v))
       (λ y j d. elim (has-or-not (σ y)) [ inl q ↦ rw q | inr q ↦ absurd (d (f y (q .0) (q .1))) ])
 
   one-move : (at : ℕ → Bool) (xs : List ℕ) → Seen k at xs (not v) → (o : List ℕ) → In o (options k v at xs) ↔ MoveOf (gives k) xs v at o
@@ -74,11 +67,11 @@ module _ (k : Kind) (v : Bool) (narrow : Narrow k) (h : One (gives k) v)
 
   pub one-laws : Laws k v
   one-laws = record {
-    force = λ at τ xs e f. (let (x, m, q) = h .some-child at xs (e .gave) in h .enough τ xs x m (f x m (counts (at x) ∙ rw q (same-refl v)) ∙ q));
-    toward = λ at τ xs e d. (let (x, m, q) = h .some-child τ xs d in (
+    force = λ at τ xs e f. (let (x, m, q) = some-child (gives k) v h at xs (e .gave) in enough (gives k) v h τ xs x m (f x m (counts (at x) ∙ rw q (same-refl v)) ∙ q));
+    toward = λ at τ xs e d. (let (x, m, q) = some-child (gives k) v h τ xs d in (
       x ∷ [],
       rw (option at xs) (singles-in x xs m),
-      λ y j. elim (cases j) [ inl w ↦ rw w (q ∙ opposite (at x) v (other-value at xs e x m)) | inr z ↦ absurd (nowhere z) ],
+      λ y j. elim (cases j) [ inl w ↦ rw w (q ∙ opposite (at x) v (all-other (gives k) v h at xs (e .gave) x m)) | inr z ↦ absurd (nowhere z) ],
     ));
     sound = λ at xs e o m. move-sound (gives k) v xs at (e .gave) o (one-move at xs e o .0 m);
     few = λ at xs e. rw (option at xs) (omega (arith, singles-length xs, narrow (length xs) (e .fits)));
