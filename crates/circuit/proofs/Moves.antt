@@ -13,16 +13,16 @@ use Rattle.folds.proofs.Tests.{which}
 use Rattle.circuit.specs.declared.Choice.{Choice}
 use Rattle.circuit.specs.declared.Choice.the-variants.{Greedy, Down, Up}
 use Rattle.circuit.specs.Tools.{holdsOfAll, isEmpty, pick}
-use Rattle.circuit.specs.Circuit.{Circuit, coded, WellFormed, on}
+use Rattle.circuit.specs.Circuit.{Circuit, coded, WellFormed}
 use Rattle.circuit.specs.Evaluate.{Start}
 use Rattle.circuit.specs.Survey.{front, interestSize}
 use Rattle.circuit.specs.Run.{Entry, drawn, downOptions, turn, greedyOptions, chosen, turned}
 use Rattle.circuit.specs.Promise.{NoFront, OptionOf, How, MoveIs, MoveIs001}
 use Rattle.circuit.proofs.Lists.{select-in, in-select, all-in, in-all, least, in-length, some-isEmpty, isEmpty-none, pick-in, sub-length}
 use Rattle.circuit.proofs.Gate.{narrow}
-use Rattle.circuit.proofs.Cone.{front-seen}
+use Rattle.circuit.proofs.Cone.{in-front, front-seen}
 use Rattle.circuit.proofs.Turns.{Turnable, start-turn, turn-differs, option-sound, option-few, option-turnable, alone-turnable, drawn-in}
-use Rattle.circuit.proofs.Source001.{options-are}
+use Rattle.circuit.proofs.Source001.{down-options-are}
 use Rattle.circuit.proofs.Survey.{survey-is}
 
 -- ---- greedy: there is a best option, and none has a smaller interest set
@@ -51,8 +51,7 @@ module _ (c : Circuit) (ok : WellFormed c) (s : List ℕ) (g : ℕ) (m : In g (f
   some-down = some-isEmpty (downOptions c s g) (option-few c ok s g m .0)
 
   option-is : (o : List ℕ) → In o (downOptions c s g) ↔ OptionOf c s g o
-  unfolding downOptions
-  option-is o = options-are (c .kind g) (on s g) (on s) (c .kids g) (front-seen c ok s g m) o
+  option-is = down-options-are c ok s g (in-front c ok s g m .0) (in-front c ok s g m .2)
 
   option-small : (o : List ℕ) → In o (downOptions c s g) → (1 ≤ length o) × (length o ≤ 8)
   option-small o n =

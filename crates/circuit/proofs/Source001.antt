@@ -2,7 +2,7 @@
 use Prim.Native.Nat.{ℕ, _<_}
 use mathlib.Core.Path.{_≡_, sym, ap, _∙_}
 use mathlib.Core.Logic.{inl, inr}
-use mathlib.Core.Bool.{Bool, true, false, true≢false}
+use mathlib.Core.Bool.{Bool, true, false, not, true≢false}
 use mathlib.Core.List.{List}
 use mathlib.Core.List.{List·Memᴰ as In}
 use native.Mathlib.Omega.{arith}
@@ -11,10 +11,9 @@ use lib.Dec.{eqb}
 use Rattle.folds.proofs.Tests.{which}
 use Rattle.circuit.specs.Tools.{same}
 use Rattle.circuit.specs.Gate.{isInput, gives}
-use Rattle.circuit.specs.Circuit.{Circuit, WellFormed, on, justified, GateZeroIsInput}
-use Rattle.circuit.specs.Evaluate.{Start}
+use Rattle.circuit.specs.Circuit.{Circuit, WellFormed, Configuration, on, justified, GateZeroIsInput}
 use Rattle.circuit.specs.Run.{downOptions, turn}
-use Rattle.circuit.specs.Source001.{Extends, contrary, turns, MoveOf, Smallest, first, then, SmallestIs, Justified, JustifiedIs001, RelevantIs001, OptionsAre001, OptionsJustify}
+use Rattle.circuit.specs.Source001.{Extends, contrary, turns, MoveOf, Smallest, first, then, SmallestIs, JustifiedIs001, RelevantIs001, OptionsAre001, DownOptionsAre001, Justifies, OptionsJustify}
 use Rattle.circuit.proofs.Values.{opposite, same-true, same-false}
 use Rattle.circuit.proofs.Lists.{at-place, select-in, in-select, select-sub, sub-rising}
 use Rattle.circuit.proofs.Justification.{restrict-has, restrict-justifies}
@@ -44,13 +43,17 @@ pub justified-is : JustifiedIs001
 justified-is c s g = (
   λ e. elim (which (isInput (c .kind g))) [
     | inl i ↦ inl i
-    | inr i ↦ inr (restrict-justifies (gives (c .kind g)) (on s g) (c .kids g) (on s) (agrees c s g i e))
+    | inr i ↦ inr (i, restrict-justifies (gives (c .kind g)) (on s g) (c .kids g) (on s) (agrees c s g i e))
   ],
   elim [
     | inl i ↦ justify c s g (λ j. absurd (true≢false (sym i ∙ j)))
-    | inr j ↦ justify c s g (λ i. j .forces (on s) (λ x b e. restrict-has (on s) (c .kids g) x b e .1))
+    | inr j ↦ justify c s g (λ i. j .1 .forces (on s) (λ x b e. restrict-has (on s) (c .kids g) x b e .1))
   ],
 )
+
+pub down-options-are : DownOptionsAre001
+unfolding downOptions
+down-options-are c ok s g h u o = options-are (c .kind g) (on s g) (on s) (c .kids g) (unjustified-seen c ok s g h u) o
 
 -- a gate that is no input has a child below it
 pub gate-zero : GateZeroIsInput
@@ -61,10 +64,9 @@ gate-zero c ok h = elim (which (isInput (c .kind 0))) [
 
 -- ---- an option makes its gate justified
 
-module _ (c : Circuit) (ok : WellFormed c) (s : List ℕ) (k : Start c s) (g : ℕ) (h : g < c .gates) (u : justified c s g ≡ false) (o : List ℕ) (m : In o (downOptions c s g)) where
+module _ (c : Circuit) (ok : WellFormed c) (s : List ℕ) (k : Configuration c s) (g : ℕ) (h : g < c .gates) (u : justified c s g ≡ false) (o : List ℕ) (m : In o (downOptions c s g)) where
   move : MoveOf (gives (c .kind g)) (c .kids g) (on s g) (on s) o
-  unfolding downOptions
-  move = options-are (c .kind g) (on s g) (on s) (c .kids g) (unjustified-seen c ok s g h u) o .0 m
+  move = down-options-are c ok s g h u o .0 m
 
   abbrev differs : ℕ → Bool
   differs x = contrary (move .by x) (on s x)
@@ -72,24 +74,29 @@ module _ (c : Circuit) (ok : WellFormed c) (s : List ℕ) (k : Start c s) (g : �
   own : (x : ℕ) → In x o → In x (c .kids g) × (differs x ≡ true)
   own x i = select-in differs x (c .kids g) (rw (move .turned) at i)
 
+  not-itself : ¬ In g o
+  not-itself i = omega (arith, ok .below g h g (own g i .0))
+
+  turned : (x : ℕ) → In x o → on (turn o s) x ≡ not (on s x)
+  turned x i = turn-in o s x
+      (rw (move .turned) (sub-rising (turns (move .by) (on s) (c .kids g)) (c .kids g) (select-sub differs (c .kids g)) (ok .rising g h)))
+      (let w = ok .below g h x (own x i .0) in let l = k .long in omega arith) i
+
   agreeing : Extends (on (turn o s)) (move .by)
   agreeing x b e = elim (which (same b (on s x))) [
     | inl q ↦ ap (λ (n : ℕ). eqb n 1) (turn-out o s x (λ i. true≢false (sym (own x i .1) ∙ rw (e, q)))) ∙ sym (same-true b (on s x) q)
-    | inr q ↦ turn-in o s x (rw (move .turned) (sub-rising (turns (move .by) (on s) (c .kids g)) (c .kids g) (select-sub differs (c .kids g)) (ok .rising g h)))
-        (let w = ok .below g h x kid in let l = k .configuration .long in omega arith)
-        (rw (move .turned) (in-select differs x (c .kids g) kid (rw (e, q))))
+    | inr q ↦ turned x (rw (move .turned) (in-select differs x (c .kids g) (move .minimal .justifies .children x b e) (rw (e, q))))
         ∙ sym (opposite (on s x) b (same-false b (on s x) q))
   ]
-    where
-      kid : In x (c .kids g)
-      kid = move .minimal .justifies .children x b e
 
-  option-justifies : Justified c (turn o s) g
-  option-justifies = inr (restrict-justifies (gives (c .kind g)) (on (turn o s) g) (c .kids g) (on (turn o s))
-      (move .minimal .justifies .forces (on (turn o s)) agreeing ∙ sym still))
-    where
-      still : on (turn o s) g ≡ on s g
-      still = ap (λ (n : ℕ). eqb n 1) (turn-out o s g (λ i. omega (arith, ok .below g h g (own g i .0))))
+  option-justifies : Justifies c s g o
+  option-justifies = record {
+    turned = turned;
+    others = turn-out o s;
+    not-itself = not-itself;
+    justified = justified-is c (turn o s) g .0 (justify c (turn o s) g (λ i.
+        move .minimal .justifies .forces (on (turn o s)) agreeing ∙ sym (ap (λ (n : ℕ). eqb n 1) (turn-out o s g not-itself))));
+  }
 
 pub options-justify : OptionsJustify
 options-justify = option-justifies

@@ -116,16 +116,11 @@ module _ (c : Circuit) (ok : WellFormed c) (s : List ℕ) where
   surveyed : Surveyed c s
   unfolding survey frontSize interestSize
   surveyed = record {
+    cone-is = λ g h. (cone-to g h, λ t. cone-from g t .1);
+    front-is = λ g h. (front-to g h, λ t. front-from g t .1);
+    interest-is = λ g h. (interest-to g h, λ t. interest-from g t .1);
     long = length-map (upTo (c .gates)) _ ∙ length-upTo (c .gates);
-    bytes = λ g h. record {
-      in-cone = cone c s g;
-      in-front = inFront c s g;
-      interesting = interest c s g;
-      sum = map-at _ (c .gates) g 0 h;
-      cone = (cone-to g h, λ t. cone-from g t .1);
-      front = (front-to g h, λ t. front-from g t .1);
-      interest = (interest-to g h, λ t. interest-from g t .1);
-    };
+    bytes = λ g h. map-at _ (c .gates) g 0 h;
     listed = front-lists;
     front-size = record { elements = front c s; lists = front-lists; many = refl };
     interest-size = record {

@@ -1,5 +1,6 @@
--- Section 2 of source document 001 in its own words: justification, cone, front, interest set. Document 01's two differences are marked.
--- After it, as statements, that document 01's functions, tables and survey are these; proofs/Source001.antt and proofs/Survey.antt prove them.
+-- Section 2 of source document 001 in its own words: justification, cone, front, interest set; and, of section 3, the move of a justification.
+-- Document 01's two differences are marked. After it, as statements, that document 01's functions, tables, options and survey are these:
+-- proofs/Gate.antt, proofs/Source001.antt and proofs/Survey.antt prove them.
 -- Assumes nothing.
 use Prim.Native.Nat.{ℕ, _+_, _*_, _<_}
 use mathlib.Core.Path.{_≡_}
@@ -10,9 +11,8 @@ use mathlib.Core.List.{List, [], _∷_, map, List·Memᴰ as In}
 use lib.ListN.{length, getD}
 use Rattle.circuit.specs.Tools.{byte, same, member, Rising, select}
 use Rattle.circuit.specs.Gate.{Kind, Not, And, Or, Xor, isInput, fanInFits, gives, relevant, options}
-use Rattle.circuit.specs.Circuit.{Circuit, coded, WellFormed, on, justified}
-use Rattle.circuit.specs.Evaluate.{Start}
-use Rattle.circuit.specs.Survey.{front, frontSize, interestSize, survey}
+use Rattle.circuit.specs.Circuit.{Circuit, coded, WellFormed, Configuration, on, justified}
+use Rattle.circuit.specs.Survey.{cone, inFront, front, interest, survey, frontSize, interestSize}
 use Rattle.circuit.specs.Run.{downOptions, turn}
 
 -- ---- assignments
@@ -38,7 +38,8 @@ restrict τ xs x = cond (member x xs) (some (τ x)) none
 
 -- ---- justifications, for any Boolean function f and children xs
 
--- "a justification for the pair <g, v> is a partial assignment to the children of g such that f(..) = v holds for all extensions"
+-- "Given a non-input gate g := f(..) and a value v .., a justification for the pair <g, v> is a partial assignment .. to the children of g such
+-- that f(..) = v holds for all extensions .."
 pub record Justification (f : List Bool → Bool) (xs : List ℕ) (v : Bool) (σ : Partial) : Type 0 where
   pub children : (x : ℕ) (b : Bool) → Has σ x b → In x xs
   pub forces : (τ : ℕ → Bool) → Extends τ σ → f (map τ xs) ≡ v
@@ -48,7 +49,7 @@ pub record Minimal (f : List Bool → Bool) (xs : List ℕ) (v : Bool) (σ : Par
   pub justifies : Justification f xs v σ
   pub least : (ρ : Partial) → Justification f xs v ρ → Subset ρ σ → Subset σ ρ
 
--- Child x is in some subset minimal justification. Difference 1: in one that agrees with the configuration.
+-- Child x is in some subset minimal justification. Difference 1: in one that agrees with the configuration, as in 001's worked example.
 pub record TakesPart (f : List Bool → Bool) (xs : List ℕ) (v : Bool) (at : ℕ → Bool) (x : ℕ) : Type 0 where
   pub by : Partial
   pub minimal : Minimal f xs v by
@@ -64,7 +65,8 @@ contrary (some a) b = not (same a b)
 abbrev pub turns : Partial → (ℕ → Bool) → List ℕ → List ℕ
 turns σ at xs = select (λ x. contrary (σ x) (at x)) xs
 
--- The move of a subset minimal justification: o are the children that get another value by it.
+-- The move of a subset minimal justification, 001's "flips the values of a subset of g's children so that g becomes locally justified": o are the
+-- children that get another value by it. (001's Algorithm 1 takes any justification; its section 3.1 and document 01 take the minimal ones.)
 pub record MoveOf (f : List Bool → Bool) (xs : List ℕ) (v : Bool) (at : ℕ → Bool) (o : List ℕ) : Type 0 where
   pub by : Partial
   pub minimal : Minimal f xs v by
@@ -77,36 +79,41 @@ pub data Smallest (From : ℕ → Type 0) (Brings : ℕ → ℕ → Type 0) : �
   first : {x : ℕ} → From x → Smallest From Brings x
   then : {g x : ℕ} → Smallest From Brings g → Brings g x → Smallest From Brings x
 
--- "The descendant relation is the transitive closure of the child relation": x is a descendant of g
+-- "The descendant .. relations are defined in the usual way as the transitive closures of the child .. relations": x is a descendant of g
 pub data Descendant (c : Circuit) (g : ℕ) : ℕ → Type 0 where
   child : {x : ℕ} → In x (c .kids g) → Descendant c g x
   further : {y x : ℕ} → Descendant c g y → In x (c .kids y) → Descendant c g x
 
 module _ (c : Circuit) where
-  -- condition 1
+  -- "1. If <g, v> ∈ α, then g ∈ S."
   abbrev pub Constrained : ℕ → Type 0
   Constrained g = (g < c .gates) × (coded c g ≡ true)
 
   module _ (s : List ℕ) where
-    -- "(i) it is an input gate, or (ii) the restriction of τ to its children is a justification for <g, τ(g)>"
+    -- "A gate g is justified in an assignment τ if it is assigned .. and (i) it is an input gate, or (ii) g := f(..) ∈ C and τ|{..} is a
+    -- justification for <g, τ(g)>." (A configuration assigns every gate.) Difference 2, first half: 001 takes a NOT gate and its child as always
+    -- opposite; here a configuration may break a NOT gate, and it is then unjustified like any other.
     abbrev pub Justified : ℕ → Type 0
-    Justified g = (isInput (c .kind g) ≡ true) ⊎ Justification (gives (c .kind g)) (c .kids g) (on s g) (restrict (on s) (c .kids g))
+    Justified g =
+        (isInput (c .kind g) ≡ true)
+        ⊎ ((isInput (c .kind g) ≡ false) × Justification (gives (c .kind g)) (c .kids g) (on s g) (restrict (on s) (c .kids g)))
 
-    -- condition 2
+    -- "2. If g ∈ S and (i) g is a non-input gate, (ii) g is justified in τ, and (iii) <gi, vi> ∈ σ for some subset minimal justification σ for
+    -- <g, τ(g)>, then gi ∈ S."
     pub record Brings (g x : ℕ) : Type 0 where
       pub gate : isInput (c .kind g) ≡ false
       pub justified : Justified g
       pub part : TakesPart (gives (c .kind g)) (c .kids g) (on s g) (on s) x
 
-    -- the justification cone
+    -- "the smallest one of those sets S of gates which satisfy the following properties"
     abbrev pub Cone : ℕ → Type 0
     Cone = Smallest Constrained Brings
 
-    -- "those gates in the cone that are not justified"
+    -- "those gates in the cone that are not justified": the justification frontier
     abbrev pub Front : ℕ → Type 0
     Front g = Cone g × ¬ Justified g
 
-    -- "it belongs to the frontier or is a descendant of a gate in it". Difference 2: NOT gates count.
+    -- "it belongs to the frontier .. or is a descendant of a gate in it". Difference 2, second half: NOT gates count.
     abbrev pub Interesting : ℕ → Type 0
     Interesting x = Front x ⊎ ((g : ℕ) × Front g × Descendant c g x)
 
@@ -122,7 +129,7 @@ SmallestIs =
     (From : ℕ → Type 0) (Brings : ℕ → ℕ → Type 0)
     → IsClosed From Brings (Smallest From Brings) × ((S : ℕ → Type 0) → IsClosed From Brings S → (x : ℕ) → Smallest From Brings x → S x)
 
--- "NOT(v) is t iff v is f", "OR(..) is t iff at least one is t", "AND(..) is t iff all are t", "XOR(..) is t iff exactly one is t"
+-- "NOT(v) is t iff v is f", "OR(..) is t iff at least one of .. is t", "AND(..) is t iff all .. are t", "XOR(..) is t iff exactly one of .. is t"
 pub record Functions : Type 0 where
   pub not-is : (b : Bool) → (gives Not (b ∷ []) ≡ true) ↔ (b ≡ false)
   pub or-is : (vs : List Bool) → (gives Or vs ≡ true) ↔ In true vs
@@ -133,30 +140,45 @@ pub record Functions : Type 0 where
 abbrev pub JustifiedIs001 : Type 0
 JustifiedIs001 = (c : Circuit) (s : List ℕ) (g : ℕ) → (justified c s g ≡ true) ↔ Justified c s g
 
--- A gate's kind, value, configuration and children, where the fan-in is allowed and the children ascend; `was` is the value that they give.
+-- A gate that is no input, by its kind, its children xs and their values: the fan-in is allowed, the children ascend, and `was` is the value that
+-- they give. `WellFormed` has this for every gate.
 pub record Seen (k : Kind) (at : ℕ → Bool) (xs : List ℕ) (was : Bool) : Type 0 where
   pub gate : isInput k ≡ false
   pub fits : fanInFits k (length xs) ≡ true
   pub rising : Rising xs
   pub gave : gives k (map at xs) ≡ was
 
--- The table of relevant children, at a justified gate, is exactly "in some subset minimal justification that agrees with the configuration".
+-- The table of relevant children, at a justified gate, has exactly the children in some subset minimal justification that agrees. (At an unjustified
+-- gate nobody asks the table.)
 abbrev pub RelevantIs001 : Type 0
 RelevantIs001 =
     (k : Kind) (v : Bool) (at : ℕ → Bool) (xs : List ℕ) → Seen k at xs v
     → (x : ℕ) → (In x xs × (relevant k v (at x) ≡ true)) ↔ TakesPart (gives k) xs v at x
 
--- The down options, at an unjustified gate, are exactly the moves of the subset minimal justifications.
+-- The down options, at an unjustified gate, are exactly the moves of the subset minimal justifications. (Their numbers and order are document 01's:
+-- the definition `options` has them.)
 abbrev pub OptionsAre001 : Type 0
 OptionsAre001 =
     (k : Kind) (v : Bool) (at : ℕ → Bool) (xs : List ℕ) → Seen k at xs (not v)
     → (o : List ℕ) → In o (options k v at xs) ↔ MoveOf (gives k) xs v at o
 
--- Each of them makes the gate justified.
+-- the same on circuits, for the options that moves pick from
+abbrev pub DownOptionsAre001 : Type 0
+DownOptionsAre001 =
+    (c : Circuit) → WellFormed c → (s : List ℕ) (g : ℕ) → g < c .gates → justified c s g ≡ false
+    → (o : List ℕ) → In o (downOptions c s g) ↔ MoveOf (gives (c .kind g)) (c .kids g) (on s g) (on s) o
+
+-- What turning the gates o does: they have the other value, all other gates keep theirs, gate g among these, and g is justified.
+pub record Justifies (c : Circuit) (s : List ℕ) (g : ℕ) (o : List ℕ) : Type 0 where
+  pub turned : (x : ℕ) → In x o → on (turn o s) x ≡ not (on s x)
+  pub others : (x : ℕ) → ¬ In x o → getD (turn o s) x 0 ≡ getD s x 0
+  pub not-itself : ¬ In g o
+  pub justified : Justified c (turn o s) g
+
 abbrev pub OptionsJustify : Type 0
 OptionsJustify =
-    (c : Circuit) → WellFormed c → (s : List ℕ) → Start c s → (g : ℕ) → g < c .gates → justified c s g ≡ false
-    → (o : List ℕ) → In o (downOptions c s g) → Justified c (turn o s) g
+    (c : Circuit) → WellFormed c → (s : List ℕ) → Configuration c s → (g : ℕ) → g < c .gates → justified c s g ≡ false
+    → (o : List ℕ) → In o (downOptions c s g) → Justifies c s g o
 
 -- xs lists the set P by rising number
 pub record Lists (P : ℕ → Type 0) (xs : List ℕ) : Type 0 where
@@ -169,20 +191,13 @@ pub record Size (P : ℕ → Type 0) (n : ℕ) : Type 0 where
   pub lists : Lists P elements
   pub many : n ≡ length elements
 
--- n is gate g's byte
-pub record SurveyByte (c : Circuit) (s : List ℕ) (g n : ℕ) : Type 0 where
-  pub in-cone : Bool
-  pub in-front : Bool
-  pub interesting : Bool
-  pub sum : n ≡ byte in-cone + 2 * byte in-front + 4 * byte interesting
-  pub cone : (in-cone ≡ true) ↔ Cone c s g
-  pub front : (in-front ≡ true) ↔ Front c s g
-  pub interest : (interesting ≡ true) ↔ Interesting c s g
-
--- Survey's bytes and sizes, and the list from which a move draws
+-- Cone, front and interest set as sets, Survey's bytes and sizes, and the list from which a move draws
 pub record Surveyed (c : Circuit) (s : List ℕ) : Type 0 where
+  pub cone-is : (g : ℕ) → g < c .gates → (cone c s g ≡ true) ↔ Cone c s g
+  pub front-is : (g : ℕ) → g < c .gates → (inFront c s g ≡ true) ↔ Front c s g
+  pub interest-is : (g : ℕ) → g < c .gates → (interest c s g ≡ true) ↔ Interesting c s g
   pub long : length (survey c s) ≡ c .gates
-  pub bytes : (g : ℕ) → g < c .gates → SurveyByte c s g (getD (survey c s) g 0)
+  pub bytes : (g : ℕ) → g < c .gates → getD (survey c s) g 0 ≡ byte (cone c s g) + 2 * byte (inFront c s g) + 4 * byte (interest c s g)
   pub listed : Lists (Front c s) (front c s)
   pub front-size : Size (Front c s) (frontSize c s)
   pub interest-size : Size (Interesting c s) (interestSize c s)
