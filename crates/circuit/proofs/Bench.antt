@@ -3,41 +3,57 @@ use Prim.Native.Nat.{ℕ}
 use mathlib.Core.Path.{refl}
 use Rattle.folds.specs.Folds.{_and_, _or_, allBelow, descend}
 use Rattle.circuit.specs.Circuit.{justified}
-use Rattle.circuit.specs.Evaluate.{inputsBefore, values, evaluate, mark}
+use Rattle.circuit.specs.Evaluate.{inputsBefore, rowOf, values, evaluate, mark, differ}
 use Rattle.circuit.specs.Survey.{spread, reasons, cone, inFront, front, interest, survey, frontSize, interestSize}
-use Rattle.circuit.specs.Run.{drawn, downOptions, greedyOptions, chosen, turned, run, answer}
-use Rattle.circuit.specs.Bench.{adder, nand, gap, clash, twins, Examples}
+use Rattle.circuit.specs.Run.{drawn, downOptions, optionAt, greedyOptions, chosen, turned, run, answer}
+use Rattle.circuit.specs.Bench.{adder, clash, uncoded, corner, nand, gap, three, nots, Examples}
 
 -- every definition that the examples compute with, under one name
 opened : ℕ
-unfolding _and_ _or_ allBelow descend justified inputsBefore values evaluate mark spread reasons cone inFront front interest survey frontSize interestSize drawn downOptions greedyOptions chosen turned run answer adder nand gap clash twins
+unfolding _and_ _or_ allBelow descend justified inputsBefore rowOf values evaluate mark differ spread reasons cone inFront front interest survey frontSize interestSize drawn downOptions optionAt greedyOptions chosen turned run answer adder clash uncoded corner nand gap three nots
 opened = 0
 
 pub examples : Examples
 unfolding opened
 examples = record {
-  and-at-zero = refl;
-  or-at-one = refl;
-  front-and-below = refl;
-  sizes = (refl, refl);
-  by-input-order = refl;
   evaluated = refl;
+  by-input-order = refl;
   marked-yes = refl;
   marked-no = refl;
   marked-code = refl;
-  draw-modulo = refl;
-  option-modulo = refl;
+  differing = refl;
+  front-and-below = refl;
+  sizes = (refl, refl);
+  or-at-one = refl;
+  no-sizes = (refl, refl);
+  and-at-zero = refl;
+  and-at-one-options = refl;
+  and-wrong-alone = refl;
+  or-at-zero-options = refl;
+  and-at-zero-options = refl;
+  or-at-one-options = refl;
+  not-options = refl;
+  xor-options = refl;
+  drawn-gate = (refl, refl);
+  drawn-turns = (refl, refl, refl);
+  option-wraps = (refl, refl);
   up-on-coded = refl;
   up-on-uncoded = (refl, refl);
+  up-turns = refl;
+  up-survey = refl;
   greedy-interest = (refl, refl);
-  greedy = (refl, refl);
-  wrong-alone = refl;
-  every-wrong = refl;
-  first-or-second = refl;
+  greedy-turns = (refl, refl);
+  greedy-ties = (refl, refl);
+  greedy-wraps = refl;
   found-without-entry = refl;
+  found-without-code = refl;
   found-at-once = refl;
   found-at-last = refl;
   spent = refl;
+  first-move = refl;
   two-moves = refl;
+  up-then-down = refl;
   answer-is-evaluated = refl;
+  answer-outside-cone = refl;
+  rows = (refl, refl, refl);
 }

@@ -1,26 +1,21 @@
--- The cone and the front, and what an empty front says: what Found writes is a satisfying assignment. Assumes nothing.
-use Prim.Native.Nat.{ℕ, zero, suc, _<_}
-use mathlib.Core.Path.{_≡_, sym, ap, _∙_}
+-- The cone and the front. Assumes nothing.
+use Prim.Native.Nat.{ℕ, _<_}
+use mathlib.Core.Path.{_≡_}
 use mathlib.Core.Logic.{inl, inr}
-use mathlib.Core.Bool.{Bool, true, false, not}
+use mathlib.Core.Bool.{true, false, not}
 use mathlib.Core.List.{List}
 use mathlib.Core.List.{List·Memᴰ as In, List·Memᴰ·not-nil as nowhere}
-use native.Mathlib.Omega.{arith}
 use borrow.Author.Tests.{not-true}
-use Rattle.folds.specs.Folds.{_and_}
-use Rattle.folds.proofs.Tests.{which, and-left, and-right, and-both, and-past, or-left-false, or-right-false}
+use Rattle.folds.proofs.Tests.{which, and-left, and-right, and-both, or-left-false, or-right-false}
 use Rattle.circuit.specs.Tools.{upTo, isEmpty}
 use Rattle.circuit.specs.Gate.{isInput, relevant}
-use Rattle.circuit.specs.Circuit.{Circuit, isSome, coded, WellFormed, on, given, justified}
-use Rattle.circuit.specs.Evaluate.{values, Satisfying, Start}
+use Rattle.circuit.specs.Circuit.{Circuit, coded, WellFormed, on, given, justified}
 use Rattle.circuit.specs.Survey.{reasons, cone, inFront, front}
-use Rattle.circuit.specs.Run.{answer}
 use Rattle.circuit.specs.Source001.{Seen}
 use Rattle.circuit.proofs.Values.{opposite, same-false}
 use Rattle.circuit.proofs.Lists.{select-in, in-select, in-upTo, upTo-in, isEmpty-none}
-use Rattle.circuit.proofs.Gate.{laws}
 use Rattle.circuit.proofs.Spread.{spread-start, spread-closed}
-use Rattle.circuit.proofs.Evaluate.{agrees, values-configuration, values-input, values-obey}
+use Rattle.circuit.proofs.Evaluate.{agrees}
 
 module _ (c : Circuit) (ok : WellFormed c) (s : List ℕ) where
   -- ---- a gate with its children, for the laws of its kind
@@ -65,37 +60,9 @@ module _ (c : Circuit) (ok : WellFormed c) (s : List ℕ) where
       let (u, p) = select-in (inFront c s) g (upTo (c .gates)) m in
       (in-upTo g (c .gates) u, and-left _ _ p, not-true (justified c s g) (and-right _ _ p))
 
-  pub front-seen : (g : ℕ) → In g (front c s) → Seen (c .kind g) (on s) (c .kids g) (not (on s g))
-  front-seen g m = unjustified-seen g (in-front g m .0) (in-front g m .2)
-
   pub cone-justified : isEmpty (front c s) ≡ true → (g : ℕ) → g < c .gates → cone c s g ≡ true → justified c s g ≡ true
   unfolding front inFront
   cone-justified e g h k = elim (which (justified c s g)) [
     | inl q ↦ q
     | inr q ↦ absurd (isEmpty-none g (front c s) e (in-select (inFront c s) g (upTo (c .gates)) (upTo-in g (c .gates) h) (and-both _ _ k (rw q))))
   ]
-
--- ---- an empty front
-
-module _ (c : Circuit) (ok : WellFormed c) (s : List ℕ) (k : Start c s) (e : isEmpty (front c s) ≡ true) where
-  abbrev kept : ℕ → Bool
-  kept g = cone c s g and on s g
-
-  -- every gate of the cone evaluates to its value in the configuration
-  cone-shows : (b g : ℕ) → g < b → g < c .gates → cone c s g ≡ true → on (values c kept (c .gates)) g ≡ on s g
-  cone-shows zero g l h m = absurd (omega arith)
-  cone-shows (suc b) g l h m = elim (which (isInput (c .kind g))) [
-    | inl i ↦ values-input c kept g h i ∙ and-past _ _ m
-    | inr i ↦ (let j = cone-justified c ok s e g h m in
-        sym (values-obey c kept ok g h i)
-        ∙ laws (c .kind g) (on s g) i .force (on s) (on (values c kept (c .gates))) (c .kids g) (justified-seen c ok s g h i j)
-        (λ x n r. let w = ok .below g h x n in cone-shows b x (omega arith) (omega arith) (cone-child c ok s g h m j x n r)))
-  ]
-
-  pub answer-satisfies : Satisfying c (answer c s)
-  unfolding answer
-  answer-satisfies = record {
-    configuration = values-configuration c kept;
-    obeys = values-obey c kept ok;
-    shows = λ g h v q. cone-shows (suc g) g (omega arith) h (cone-coded c ok s g (ap isSome q)) ∙ k .shows g h v q;
-  }

@@ -36,7 +36,7 @@ module _ (c : Circuit) (s : List ℕ) (g : ℕ) where
 
 -- ---- Mark
 
-shows-code : (o : Option Bool) (b : Bool) → (showsCode o b ≡ true) ↔ ((v : Bool) → o ≡ some v → b ≡ v)
+pub shows-code : (o : Option Bool) (b : Bool) → (showsCode o b ≡ true) ↔ ((v : Bool) → o ≡ some v → b ≡ v)
 shows-code none b = (λ e v q. absurd (let z : _≡_ {A = ℕ} 0 1 = cc in omega arith), λ f. refl)
 shows-code (some w) b = (λ e v q. sym (same-true w b e) ∙ (let r : w ≡ v = cc in r), λ f. rw (f w refl) (same-refl w))
 

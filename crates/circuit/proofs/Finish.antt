@@ -7,23 +7,23 @@ use mathlib.Core.Option.{Option, none, some}
 use mathlib.Core.List.{List, [], _∷_, map}
 use mathlib.Core.List.{List·Memᴰ as In, List·Memᴰ·cases-cons as cases, List·Memᴰ·not-nil as nowhere, Memᴰ·map as map-in}
 use native.Mathlib.Omega.{arith}
-use lib.ListN.{length, replicate, length-replicate}
+use lib.ListN.{length, replicate, length-replicate, length-map}
 use Rattle.folds.proofs.Tests.{which, and-second-false}
 use Rattle.circuit.specs.declared.Choice.{Choice}
 use Rattle.circuit.specs.declared.Choice.the-variants.{Down, Up}
-use Rattle.circuit.specs.declared.Ending.the-variants.{Found}
 use Rattle.circuit.specs.Tools.{upTo, isEmpty}
 use Rattle.circuit.specs.Circuit.{Circuit, isSome, coded, WellFormed, on}
-use Rattle.circuit.specs.Evaluate.{Satisfying, Start, differ}
+use Rattle.circuit.specs.Evaluate.{Satisfying, KeepsCodes, differ}
 use Rattle.circuit.specs.Survey.{inFront, front}
-use Rattle.circuit.specs.Run.{Entry, drawn, downOptions, turn, chosen, turned, after, run, answer}
-use Rattle.circuit.specs.Promise.{NotGreedy, optionOf, Writable, Finish, Demand3OnCircuits}
+use Rattle.circuit.specs.Run.{Entry, drawn, downOptions, optionAt, turn, chosen, turned, after, run, answer}
+use Rattle.circuit.specs.Promise.{NotGreedy, optionByte, FinishingTape, Demand3OnCircuits}
 use Rattle.circuit.proofs.Values.{agree, unequal}
 use Rattle.circuit.proofs.Lists.{place, pick-at, select-none, in-upTo}
 use Rattle.circuit.proofs.Gate.{laws}
 use Rattle.circuit.proofs.Evaluate.{justify}
-use Rattle.circuit.proofs.Cone.{in-front, front-seen}
-use Rattle.circuit.proofs.Turns.{Turnable, start-turn, differ-zero, differ-turn, option-sound, option-few, option-turnable, alone-turnable, drawn-in}
+use Rattle.circuit.proofs.Cone.{unjustified-seen, in-front}
+use Rattle.circuit.proofs.Turns.{Turnable, keeps-turn, differ-most, differ-zero, differ-turn, option-sound, option-few, option-turnable, alone-turnable}
+use Rattle.circuit.proofs.Moves.{drawn-in}
 use Rattle.circuit.proofs.Trace.{run-found, run-step, demand2-on-circuits}
 
 -- ---- a step towards a satisfying assignment
@@ -35,14 +35,14 @@ has-code (some v) e = (v, refl)
 -- a choice that turns only gates at which s and a differ
 record Step (c : Circuit) (s a : List ℕ) (d : ℕ) : Type 0 where
   choice : Choice
-  plain : NotGreedy choice × (optionOf choice < 256)
+  plain : NotGreedy choice × (optionByte choice < 256)
   gone : List ℕ
   turns : turned c s (record { draw = d; choice = choice }) ≡ gone
   some-gone : 1 ≤ length gone
   turnable : Turnable c gone
   near : (x : ℕ) → In x gone → on a x ≡ not (on s x)
 
-module _ (c : Circuit) (ok : WellFormed c) (a : List ℕ) (sat : Satisfying c a) (s : List ℕ) (k : Start c s) where
+module _ (c : Circuit) (ok : WellFormed c) (a : List ℕ) (sat : Satisfying c a) (s : List ℕ) (k : KeepsCodes c s) where
   -- a gate at which they differ is uncoded
   free-where : (x : ℕ) → x < c .gates → on a x ≡ not (on s x) → coded c x ≡ false
   free-where x h q = elim (which (coded c x)) [
@@ -54,11 +54,11 @@ module _ (c : Circuit) (ok : WellFormed c) (a : List ℕ) (sat : Satisfying c a)
   near-option : (g : ℕ) → In g (front c s) → on a g ≡ on s g → (o : List ℕ) × In o (downOptions c s g) × ((x : ℕ) → In x o → on a x ≡ not (on s x))
   unfolding downOptions
   near-option g m q =
-      let e = front-seen c ok s g m in
+      let e = unjustified-seen c ok s g (in-front c ok s g m .0) (in-front c ok s g m .2) in
       laws (c .kind g) (on s g) (e .gate) .toward (on s) (on a) (c .kids g) e (sat .obeys g (in-front c ok s g m .0) (e .gate) ∙ q)
 
   up-step : (d : ℕ) → In (drawn c s d) (front c s) → on a (drawn c s d) ≡ not (on s (drawn c s d)) → Step c s a d
-  unfolding turned chosen
+  unfolding turned chosen optionAt
   up-step d m q =
       let uncoded = free-where (drawn c s d) (in-front c ok s (drawn c s d) m .0) q in
       record {
@@ -67,22 +67,23 @@ module _ (c : Circuit) (ok : WellFormed c) (a : List ℕ) (sat : Satisfying c a)
         gone = drawn c s d ∷ [];
         turns = rw uncoded;
         some-gone = omega arith;
-        turnable = alone-turnable c ok s (drawn c s d) m uncoded;
+        turnable = alone-turnable c ok s (drawn c s d) (in-front c ok s (drawn c s d) m .0) uncoded;
         near = λ x n. elim (cases n) [ inl e ↦ rw e q | inr z ↦ absurd (nowhere z) ];
       }
 
   down-step : (d : ℕ) → In (drawn c s d) (front c s) → on a (drawn c s d) ≡ on s (drawn c s d) → Step c s a d
-  unfolding turned chosen
+  unfolding turned chosen optionAt
   down-step d m q =
+      let (h, _, u) = in-front c ok s (drawn c s d) m in
       let (o, n, near) = near-option (drawn c s d) m q in
       let (i, l, e) = place [] o (downOptions c s (drawn c s d)) n in
       record {
         choice = Down i;
-        plain = (tt, omega (arith, option-few c ok s (drawn c s d) m));
+        plain = (tt, omega (arith, option-few c ok s (drawn c s d) h u));
         gone = o;
         turns = pick-at (downOptions c s (drawn c s d)) i [] l ∙ e;
-        some-gone = option-sound c ok s (drawn c s d) m o n .1;
-        turnable = option-turnable c ok s (drawn c s d) m o n;
+        some-gone = option-sound c ok s (drawn c s d) h u o n .1;
+        turnable = option-turnable c ok s (drawn c s d) h u o n;
         near = near;
       }
 
@@ -103,12 +104,12 @@ unfolding idle
 idle-draws [] = refl
 idle-draws (d ∷ ds) = ap (λ (l : List ℕ). d ∷ l) (idle-draws ds)
 
-idle-plain : (ds : List ℕ) (e : Entry) → In e (map idle ds) → NotGreedy (e .choice) × (optionOf (e .choice) < 256)
+idle-plain : (ds : List ℕ) (e : Entry) → In e (map idle ds) → NotGreedy (e .choice) × (optionByte (e .choice) < 256)
 unfolding idle
 idle-plain [] e m = absurd (nowhere m)
 idle-plain (d ∷ ds) e m = elim (cases m) [ inl q ↦ rw q (tt, omega arith) | inr n ↦ idle-plain ds e n ]
 
-at-once : (c : Circuit) (s ds : List ℕ) (n : ℕ) → isEmpty (front c s) ≡ true → Finish c s ds n
+at-once : (c : Circuit) (s ds : List ℕ) (n : ℕ) → isEmpty (front c s) ≡ true → FinishingTape c s ds n
 at-once c s ds n e = record {
   tape = map idle ds;
   draws = idle-draws ds;
@@ -119,7 +120,7 @@ at-once c s ds n e = record {
 }
 
 onward : (c : Circuit) (s a : List ℕ) (d : ℕ) (ds : List ℕ) (m n : ℕ) → isEmpty (front c s) ≡ false
-    → (t : Step c s a d) → n ≡ length (t .gone) + m → Finish c (turn (t .gone) s) ds m → Finish c s (d ∷ ds) n
+    → (t : Step c s a d) → n ≡ length (t .gone) + m → FinishingTape c (turn (t .gone) s) ds m → FinishingTape c s (d ∷ ds) n
 onward c s a d ds m n e t q r = record {
   tape = x ∷ r .tape;
   draws = ap (λ (l : List ℕ). d ∷ l) (r .draws);
@@ -141,14 +142,14 @@ module _ (c : Circuit) (ok : WellFormed c) (a : List ℕ) (sat : Satisfying c a)
   unfolding front inFront
   settled = rw (select-none (inFront c a) (upTo (c .gates)) (λ x m. and-second-false _ _ (ap not (justify c a x (sat .obeys x (in-upTo x (c .gates) m))))))
 
-  finish : (ds s : List ℕ) → Start c s → differ s a ≤ length ds → Finish c s ds (differ s a)
-  finish [] s k l = at-once c s [] (differ s a) (rw (differ-zero s a (k .configuration .long ∙ sym (sat .configuration .long)) (omega arith)) settled)
+  finish : (ds s : List ℕ) → KeepsCodes c s → differ c s a ≤ length ds → FinishingTape c s ds (differ c s a)
+  finish [] s k l = at-once c s [] (differ c s a) (rw (differ-zero c s a (k .configuration) (sat .configuration) (omega arith)) settled)
   finish (d ∷ ds) s k l = elim (which (isEmpty (front c s))) [
-    | inl e ↦ at-once c s (d ∷ ds) (differ s a) e
+    | inl e ↦ at-once c s (d ∷ ds) (differ c s a) e
     | inr e ↦ (let t : Step c s a d = step c ok a sat s k d e in
-        let q : differ s a ≡ length (t .gone) + differ (turn (t .gone) s) a = differ-turn c a (sat .configuration) (t .gone) s (t .turnable) k (t .near) in
-        onward c s a d ds (differ (turn (t .gone) s) a) (differ s a) e t q
-        (finish ds (turn (t .gone) s) (start-turn c (t .gone) s (t .turnable .free) k) (omega (arith, t .some-gone))))
+        let q : differ c s a ≡ length (t .gone) + differ c (turn (t .gone) s) a = differ-turn c a (sat .configuration) (t .gone) s (t .turnable) k (t .near) in
+        onward c s a d ds (differ c (turn (t .gone) s) a) (differ c s a) e t q
+        (finish ds (turn (t .gone) s) (keeps-turn c (t .gone) s (t .turnable .free) k) (omega (arith, t .some-gone))))
   ]
 
 -- ---- the demand
@@ -158,21 +159,23 @@ in-zeros zero x m = absurd (nowhere m)
 in-zeros (suc n) x m = elim (cases m) [ inl e ↦ e | inr i ↦ in-zeros n x i ]
 
 -- a tape for the draws 0, 0, .., whose entries fit their bytes
-some-tape : (c : Circuit) → WellFormed c → (s : List ℕ) → Start c s → (a : List ℕ) → Satisfying c a
-    → (tape : List Entry) × ((e : Entry) → In e tape → Writable e) × (run c s tape .outcome .ending ≡ Found)
-some-tape c ok s k a sat = (f .tape, λ e m. (draw e m, f .plain e m .1), f .found)
-  where
-    f : Finish c s (replicate (differ s a) 0) (differ s a)
-    f = finish c ok a sat (replicate (differ s a) 0) s k (omega (arith, length-replicate {A = ℕ} (differ s a) 0))
+module _ (c : Circuit) (ok : WellFormed c) (s : List ℕ) (k : KeepsCodes c s) (a : List ℕ) (sat : Satisfying c a) where
+  zeros : FinishingTape c s (replicate (differ c s a) 0) (differ c s a)
+  zeros = finish c ok a sat (replicate (differ c s a) 0) s k (omega (arith, length-replicate {A = ℕ} (differ c s a) 0))
 
-    draw : (e : Entry) → In e (f .tape) → e .draw < 65536
-    draw e m = let z : e .draw ≡ 0 = in-zeros (differ s a) (e .draw) (rw (f .draws) at (map-in (λ (x : Entry). x .draw) m)) in omega arith
+  zeros-fit : (e : Entry) → In e (zeros .tape) → e .draw < 65536
+  zeros-fit e m = let z : e .draw ≡ 0 = in-zeros (differ c s a) (e .draw) (rw (zeros .draws) at (map-in (λ (x : Entry). x .draw) m)) in omega arith
+
+  zeros-few : length (zeros .tape) ≤ c .gates
+  zeros-few =
+      let l = length-map (zeros .tape) (λ (x : Entry). x .draw) in
+      let d = ap length (zeros .draws) in
+      omega (arith, length-replicate {A = ℕ} (differ c s a) 0, differ-most c s a)
 
 pub demand3-on-circuits : Demand3OnCircuits
 demand3-on-circuits c ok s k = record {
-  exactly = (
-    λ r. (answer c (run c s (r .0) .last), demand2-on-circuits c ok s k (r .0) .shows (r .2)),
-    λ r. some-tape c ok s k (r .0) (r .1),
-  );
+  only = λ tape f. (answer c (run c s tape .last), demand2-on-circuits .runs c ok s k tape .shows f);
+  some-tape = λ r. (let z = zeros c ok s k (r .0) (r .1) in
+      (z .tape, λ e m. (zeros-fit c ok s k (r .0) (r .1) e m, z .plain e m .1), zeros-few c ok s k (r .0) (r .1), z .found));
   bounded = λ a sat ds l. finish c ok a sat ds s k (omega arith);
 }

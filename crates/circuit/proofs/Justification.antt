@@ -16,7 +16,7 @@ use lib.Dec.{eqb}
 use borrow.Author.Tests.{eqb-true, eq-eqb, ne-eqb}
 use Rattle.folds.proofs.Tests.{which}
 use Rattle.circuit.specs.Tools.{same, member, Rising, isEmpty}
-use Rattle.circuit.specs.Source001.{Partial, Has, Extends, restrict, Justification, Minimal, contrary, turns, MoveOf}
+use Rattle.circuit.specs.Source001.{Partial, Has, Extends, restrict, Justification, Minimal, contrary, changed, MoveOf}
 use Rattle.circuit.proofs.Values.{agree, unequal, same-true}
 use Rattle.circuit.proofs.Lists.{map-same, in-select, select-sub, isEmpty-none, some-length, member-in, in-member}
 
@@ -108,23 +108,23 @@ module _ (f : List Bool → Bool) (v : Bool) (xs : List ℕ) where
     forces = λ ρ g. ap f (map-same ρ τ xs (λ x m. g x (τ x) (restrict-at τ xs x m))) ∙ e;
   }
 
-  -- the move of a justification turns some children, where the children do not give the value yet
+  -- the move of a justification changed some children, where the children do not give the value yet
   pub move-sound : (at : ℕ → Bool) → f (map at xs) ≡ not v → (o : List ℕ) → MoveOf f xs v at o → Sub o xs × (1 ≤ length o)
-  move-sound at e o t = rw (t .turned) (
+  move-sound at e o t = rw (t .is) (
     select-sub differs xs,
-    elim (which (isEmpty (turns (t .by) at xs))) [
+    elim (which (isEmpty (changed (t .by) at xs))) [
       | inl q ↦ absurd (unequal v v refl (sym e ∙ t .minimal .justifies .forces at (agreeing q)))
-      | inr q ↦ some-length (turns (t .by) at xs) q
+      | inr q ↦ some-length (changed (t .by) at xs) q
     ],
   )
     where
       differs : ℕ → Bool
       differs x = contrary (t .by x) (at x)
 
-      agreeing : isEmpty (turns (t .by) at xs) ≡ true → Extends at (t .by)
+      agreeing : isEmpty (changed (t .by) at xs) ≡ true → Extends at (t .by)
       agreeing q x b h = elim (which (same b (at x))) [
         | inl w ↦ sym (same-true b (at x) w)
-        | inr w ↦ absurd (isEmpty-none x (turns (t .by) at xs) q (in-select (λ y. contrary (t .by y) (at y)) x xs (t .minimal .justifies .children x b h) (rw (h, w))))
+        | inr w ↦ absurd (isEmpty-none x (changed (t .by) at xs) q (in-select (λ y. contrary (t .by y) (at y)) x xs (t .minimal .justifies .children x b h) (rw (h, w))))
       ]
 
   module _ (h : One f v) where

@@ -6,10 +6,12 @@ pub mod Shapes
 pub mod Gate
 pub mod Spread
 pub mod Evaluate
+pub mod Checks
 pub mod Cone
 pub mod Turns
 pub mod Source001
 pub mod Survey
+pub mod Found
 pub mod Moves
 pub mod Trace
 pub mod Finish

@@ -14,7 +14,7 @@ use lib.Seq.{getD-at, take-suc}
 use lib.Dec.{eqb, leb}
 use borrow.Author.Tests.{eqb-true, eqb-false, eq-eqb, leb-true, leb-false}
 use Rattle.folds.proofs.Tests.{which, and-left, and-right, and-both, or-cases, or-first, or-second}
-use Rattle.circuit.specs.Tools.{byte, upTo, member, Rising, singles, select, holdsOfAll, isEmpty, pick}
+use Rattle.circuit.specs.Tools.{byte, upTo, member, Rising, Distinct, singles, select, holdsOfAll, isEmpty, pick}
 
 module _ {A : Type 0} (p : A → Bool) where
   -- what `select` keeps
@@ -150,6 +150,10 @@ pub singles-length : (xs : List ℕ) → length (singles xs) ≡ length xs
 singles-length [] = refl
 singles-length (x ∷ xs) = ap suc (singles-length xs)
 
+pub singles-distinct : (xs : List ℕ) → Rising xs → Distinct (singles xs)
+singles-distinct [] r = tt
+singles-distinct (x ∷ xs) r = (λ m. (let (y, i, q) = singles-out (x ∷ []) xs m in let e : x ≡ y = cc in omega (arith, r .0 y i)), singles-distinct xs (r .1))
+
 -- a rising list has an element once
 pub select-one : (p : ℕ → Bool) (xs : List ℕ) (x : ℕ) → Rising xs → In x xs → p x ≡ true → ((y : ℕ) → In y xs → (y ≡ x → ⊥) → p y ≡ false) → select p xs ≡ x ∷ []
 select-one p [] x r m q f = absurd (nowhere m)
@@ -157,6 +161,21 @@ select-one p (y ∷ ys) x r m q f = elim (cases m) [
   | inl e ↦ rw (sym e, q) (ap (λ (l : List ℕ). x ∷ l) (select-none p ys (λ z n. f z (there n) (λ w. omega (arith, r .0 z n)))))
   | inr n ↦ rw (f y (here refl) (λ w. omega (arith, r .0 x n))) (select-one p ys x (r .1) n q (λ z i. f z (there i)))
 ]
+
+-- a test that fails at one element more selects one element less
+pub select-less : (p q : ℕ → Bool) (x : ℕ) (xs : List ℕ) → Rising xs → In x xs → p x ≡ true → q x ≡ false
+    → ((y : ℕ) → In y xs → (y ≡ x → ⊥) → p y ≡ q y) → length (select p xs) ≡ suc (length (select q xs))
+select-less p q x [] r m a b f = absurd (nowhere m)
+select-less p q x (y ∷ ys) r m a b f = elim (cases m) [
+  | inl e ↦ rw (sym e, a, b) (ap (λ (l : List ℕ). suc (length l)) (select-same p q ys (λ z i. f z (there i) (λ w. omega (arith, r .0 z i)))))
+  | inr n ↦ (let ih = select-less p q x ys (r .1) n a b (λ z i. f z (there i)) in elim (which (q y)) [
+    | inl w ↦ rw (f y (here refl) (λ z. omega (arith, r .0 x n)), w) (ap suc ih)
+    | inr w ↦ rw (f y (here refl) (λ z. omega (arith, r .0 x n)), w) ih
+  ])
+]
+
+pub select-zero : (p : ℕ → Bool) (xs : List ℕ) → length (select p xs) ≡ 0 → (x : ℕ) → In x xs → p x ≡ false
+select-zero p xs e x m = elim (which (p x)) [ inl q ↦ absurd (omega (arith, in-length x (select p xs) (in-select p x xs m q))) | inr q ↦ q ]
 
 pub member-in : (x : ℕ) (xs : List ℕ) → member x xs ≡ true → In x xs
 member-in x [] e = absurd (false≢true e)

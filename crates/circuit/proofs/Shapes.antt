@@ -10,11 +10,11 @@ use mathlib.Core.List.{Sublistᴰ as Sub}
 use native.Mathlib.Omega.{arith}
 use lib.ListN.{length}
 use borrow.Author.Tests.{not-true}
-use Rattle.circuit.specs.Tools.{same, singles, select}
+use Rattle.circuit.specs.Tools.{same, Distinct, singles, select}
 use Rattle.circuit.specs.Gate.{Kind, fanInFits, gives, relevant, wrong, options}
-use Rattle.circuit.specs.Source001.{Partial, Has, restrict, TakesPart, turns, MoveOf, Seen}
+use Rattle.circuit.specs.Source001.{Partial, Has, restrict, TakesPart, changed, MoveOf, Seen}
 use Rattle.circuit.proofs.Values.{opposite, same-true, same-false, same-refl, same-swap, same-not}
-use Rattle.circuit.proofs.Lists.{map-same, select-in, select-same, select-one, singles-in, singles-out, singles-length}
+use Rattle.circuit.proofs.Lists.{map-same, select-in, select-same, select-one, singles-in, singles-out, singles-length, singles-distinct}
 use Rattle.circuit.proofs.Justification.{has-or-not, fill, fill-extends, restrict-at, restrict-has, just, just-at, just-has, One, some-child, enough, all-other, Each, move-sound, one-minimal, one-only, total, each-minimal}
 
 -- The laws of a kind of gate at a value v.
@@ -24,7 +24,8 @@ use Rattle.circuit.proofs.Justification.{has-or-not, fill, fill-extends
 --     few       there are 1 to 8 options, so a byte can name each
 -- and that the tables are 001's:
 --     part      the relevant children are those of the subset minimal justifications that agree
---     move      the options are the moves of the subset minimal justifications
+--     move      the options are the moves of the subset minimal justifications,
+--     once      each once
 pub record Laws (k : Kind) (v : Bool) : Type 0 where
   pub force : (at τ : ℕ → Bool) (xs : List ℕ) → Seen k at xs v → ((x : ℕ) → In x xs → relevant k v (at x) ≡ true → τ x ≡ at x) → gives k (map τ xs) ≡ v
   pub toward : (at τ : ℕ → Bool) (xs : List ℕ) → Seen k at xs (not v) → gives k (map τ xs) ≡ v
@@ -33,6 +34,7 @@ pub record Laws (k : Kind) (v : Bool) : Type 0 where
   pub few : (at : ℕ → Bool) (xs : List ℕ) → Seen k at xs (not v) → (1 ≤ length (options k v at xs)) × (length (options k v at xs) ≤ 8)
   pub part : (at : ℕ → Bool) (xs : List ℕ) → Seen k at xs v → (x : ℕ) → (In x xs × (relevant k v (at x) ≡ true)) ↔ TakesPart (gives k) xs v at x
   pub move : (at : ℕ → Bool) (xs : List ℕ) → Seen k at xs (not v) → (o : List ℕ) → In o (options k v at xs) ↔ MoveOf (gives k) xs v at o
+  pub once : (at : ℕ → Bool) (xs : List ℕ) → Seen k at xs (not v) → Distinct (options k v at xs)
 
 -- the fan-ins that a kind allows are 1 to 8
 abbrev pub Narrow : Kind → Type 0
@@ -49,7 +51,7 @@ module _ (k : Kind) (v : Bool) (narrow : Narrow k) (h : One (gives k) v)
     (option : (at : ℕ → Bool) (xs : List ℕ) → options k v at xs ≡ singles xs) where
   -- the move of a justification that has just child x
   turns-one : (at : ℕ → Bool) (xs : List ℕ) → Seen k at xs (not v) → (σ : Partial) (x : ℕ) → In x xs → Has σ x v → ((y : ℕ) (b : Bool) → Has σ y b → y ≡ x)
-      → turns σ at xs ≡ x ∷ []
+      → changed σ at xs ≡ x ∷ []
   turns-one at xs e σ x m w f = select-one _ xs x (e .rising) m
       (rw (w, all-other (gives k) v h at xs (e .gave) x m, same-swap v (not v), same-not v))
       (λ y j d. elim (has-or-not (σ y)) [ inl q ↦ rw q | inr q ↦ absurd (d (f y (q .0) (q .1))) ])
@@ -59,10 +61,10 @@ module _ (k : Kind) (v : Bool) (narrow : Narrow k) (h : One (gives k) v)
     λ m. (let (x, j, q) = singles-out o xs (rw (option at xs) at m) in record {
       by = just x v;
       minimal = one-minimal (gives k) v xs h x j;
-      turned = q ∙ sym (turns-one at xs e (just x v) x j (just-at x v) (λ y b d. just-has x v y b d .0));
+      is = q ∙ sym (turns-one at xs e (just x v) x j (just-at x v) (λ y b d. just-has x v y b d .0));
     }),
     λ t. (let (x, j, w, f) = one-only (gives k) v xs h (t .by) (t .minimal) in
-        rw (option at xs, t .turned, turns-one at xs e (t .by) x j w f) (singles-in x xs j)),
+        rw (option at xs, t .is, turns-one at xs e (t .by) x j w f) (singles-in x xs j)),
   )
 
   pub one-laws : Laws k v
@@ -87,6 +89,7 @@ module _ (k : Kind) (v : Bool) (narrow : Narrow k) (h : One (gives k) v)
           rw (f x (t .value) (t .has)) (m, counts (at y) ∙ rw (t .agrees y v w) (same-refl v))),
     );
     move = one-move;
+    once = λ at xs e. rw (option at xs) (singles-distinct xs (e .rising));
   }
 
 -- ---- every child counts: all are relevant, and the options are the ways to the value
@@ -104,12 +107,12 @@ module _ (k : Kind) (v : Bool) (narrow : Narrow k) (h : Each (gives k) v)
     λ m. (let (τ, d, q) = ways at xs e o .0 m in record {
       by = restrict τ xs;
       minimal = each-minimal (gives k) v xs h (e .rising) τ d;
-      turned = q ∙ sym (select-same _ _ xs (λ x j. rw (restrict-at τ xs x j)));
+      is = q ∙ sym (select-same _ _ xs (λ x j. rw (restrict-at τ xs x j)));
     }),
     λ t. ways at xs e o .1 (
       fill (t .by) at,
       t .minimal .justifies .forces _ (fill-extends (t .by) at),
-      t .turned ∙ select-same _ _ xs (λ x j. (let (b, w) = total (gives k) v xs h (e .rising) (t .by) (t .minimal .justifies) x j in rw w)),
+      t .is ∙ select-same _ _ xs (λ x j. (let (b, w) = total (gives k) v xs h (e .rising) (t .by) (t .minimal .justifies) x j in rw w)),
     ),
   )
 
@@ -137,4 +140,5 @@ module _ (k : Kind) (v : Bool) (narrow : Narrow k) (h : Each (gives k) v)
       λ t. (t .minimal .justifies .children x (t .value) (t .has), counts (at x)),
     );
     move = each-move;
+    once = λ at xs e. elim (form at xs) [ inl q ↦ rw q (singles-distinct xs (e .rising)) | inr q ↦ rw q (nowhere, tt) ];
   }

@@ -2,7 +2,7 @@
 use Prim.Native.Nat.{ℕ, _<_}
 use mathlib.Core.Path.{_≡_, sym, ap, _∙_}
 use mathlib.Core.Logic.{inl, inr}
-use mathlib.Core.Bool.{Bool, true, false, not, true≢false}
+use mathlib.Core.Bool.{Bool, false, true≢false}
 use mathlib.Core.List.{List}
 use mathlib.Core.List.{List·Memᴰ as In}
 use native.Mathlib.Omega.{arith}
@@ -13,31 +13,27 @@ use Rattle.circuit.specs.Tools.{same}
 use Rattle.circuit.specs.Gate.{isInput, gives}
 use Rattle.circuit.specs.Circuit.{Circuit, WellFormed, Configuration, on, justified, GateZeroIsInput}
 use Rattle.circuit.specs.Run.{downOptions, turn}
-use Rattle.circuit.specs.Source001.{Extends, contrary, turns, MoveOf, Smallest, first, then, SmallestIs, JustifiedIs001, RelevantIs001, OptionsAre001, DownOptionsAre001, Justifies, OptionsJustify}
+use Rattle.circuit.specs.Source001.{Extends, contrary, MoveOf, Smallest, first, then, IsClosed, SmallestIs, Turned, JustifiedIs001, RelevantIs001, OptionsAre001, DownOptionsAre001, Justifies, OptionsJustify}
 use Rattle.circuit.proofs.Values.{opposite, same-true, same-false}
-use Rattle.circuit.proofs.Lists.{at-place, select-in, in-select, select-sub, sub-rising}
+use Rattle.circuit.proofs.Lists.{at-place, select-in, in-select}
 use Rattle.circuit.proofs.Justification.{restrict-has, restrict-justifies}
 use Rattle.circuit.proofs.Gate.{laws, narrow}
 use Rattle.circuit.proofs.Evaluate.{agrees, justify}
 use Rattle.circuit.proofs.Cone.{unjustified-seen}
-use Rattle.circuit.proofs.Turns.{turn-in, turn-out}
+use Rattle.circuit.proofs.Turns.{turn-turns, option-kid, option-turnable}
 
-smallest-in : (From : ℕ → Type 0) (Brings : ℕ → ℕ → Type 0) (S : ℕ → Type 0) → ((x : ℕ) → From x → S x) → ((g x : ℕ) → S g → Brings g x → S x)
-    → (x : ℕ) → Smallest From Brings x → S x
-smallest-in From Brings S base step x (first f) = base x f
-smallest-in From Brings S base step x (then {g} r b) = step g x (smallest-in From Brings S base step g r) b
+smallest-in : (First : ℕ → Type 0) (Next : ℕ → ℕ → Type 0) (S : ℕ → Type 0) → IsClosed First Next S → (x : ℕ) → Smallest First Next x → S x
+smallest-in First Next S k x (first f) = k .has x f
+smallest-in First Next S k x (then {g} r b) = k .closed g x (smallest-in First Next S k g r) b
 
 pub smallest-is : SmallestIs
-smallest-is From Brings = (
-  record { has = λ x f. first f; closed = λ g x r b. then r b },
-  λ S k x r. smallest-in From Brings S (k .has) (k .closed) x r,
-)
+smallest-is First Next = (record { has = λ x f. first f; closed = λ g x r b. then r b }, smallest-in First Next)
 
 pub relevant-is : RelevantIs001
 relevant-is k v at xs e x = laws k v (e .gate) .part at xs e x
 
 pub options-are : OptionsAre001
-options-are k v at xs e o = laws k v (e .gate) .move at xs e o
+options-are k v at xs e = (laws k v (e .gate) .move at xs e, laws k v (e .gate) .once at xs e)
 
 pub justified-is : JustifiedIs001
 justified-is c s g = (
@@ -53,7 +49,7 @@ justified-is c s g = (
 
 pub down-options-are : DownOptionsAre001
 unfolding downOptions
-down-options-are c ok s g h u o = options-are (c .kind g) (on s g) (on s) (c .kids g) (unjustified-seen c ok s g h u) o
+down-options-are c ok s g h u = options-are (c .kind g) (on s g) (on s) (c .kids g) (unjustified-seen c ok s g h u)
 
 -- a gate that is no input has a child below it
 pub gate-zero : GateZeroIsInput
@@ -66,36 +62,32 @@ gate-zero c ok h = elim (which (isInput (c .kind 0))) [
 
 module _ (c : Circuit) (ok : WellFormed c) (s : List ℕ) (k : Configuration c s) (g : ℕ) (h : g < c .gates) (u : justified c s g ≡ false) (o : List ℕ) (m : In o (downOptions c s g)) where
   move : MoveOf (gives (c .kind g)) (c .kids g) (on s g) (on s) o
-  move = down-options-are c ok s g h u o .0 m
+  move = down-options-are c ok s g h u .0 o .0 m
+
+  turns : Turned o s (turn o s)
+  turns = turn-turns c o s (option-turnable c ok s g h u o m) k
+
+  stands : (x : ℕ) → ¬ In x o → on (turn o s) x ≡ on s x
+  stands x n = ap (λ (b : ℕ). eqb b 1) (turns .others x n)
 
   abbrev differs : ℕ → Bool
   differs x = contrary (move .by x) (on s x)
 
-  own : (x : ℕ) → In x o → In x (c .kids g) × (differs x ≡ true)
-  own x i = select-in differs x (c .kids g) (rw (move .turned) at i)
-
-  not-itself : ¬ In g o
-  not-itself i = omega (arith, ok .below g h g (own g i .0))
-
-  turned : (x : ℕ) → In x o → on (turn o s) x ≡ not (on s x)
-  turned x i = turn-in o s x
-      (rw (move .turned) (sub-rising (turns (move .by) (on s) (c .kids g)) (c .kids g) (select-sub differs (c .kids g)) (ok .rising g h)))
-      (let w = ok .below g h x (own x i .0) in let l = k .long in omega arith) i
-
   agreeing : Extends (on (turn o s)) (move .by)
   agreeing x b e = elim (which (same b (on s x))) [
-    | inl q ↦ ap (λ (n : ℕ). eqb n 1) (turn-out o s x (λ i. true≢false (sym (own x i .1) ∙ rw (e, q)))) ∙ sym (same-true b (on s x) q)
-    | inr q ↦ turned x (rw (move .turned) (in-select differs x (c .kids g) (move .minimal .justifies .children x b e) (rw (e, q))))
+    | inl q ↦ stands x (λ i. true≢false (sym (select-in differs x (c .kids g) (rw (move .is) at i) .1) ∙ rw (e, q))) ∙ sym (same-true b (on s x) q)
+    | inr q ↦ turns .these x (rw (move .is) (in-select differs x (c .kids g) (move .minimal .justifies .children x b e) (rw (e, q))))
         ∙ sym (opposite (on s x) b (same-false b (on s x) q))
   ]
 
+  not-itself : ¬ In g o
+  not-itself i = omega (arith, ok .below g h g (option-kid c ok s g h u o m g i))
+
   option-justifies : Justifies c s g o
   option-justifies = record {
-    turned = turned;
-    others = turn-out o s;
+    turns = turns;
     not-itself = not-itself;
-    justified = justified-is c (turn o s) g .0 (justify c (turn o s) g (λ i.
-        move .minimal .justifies .forces (on (turn o s)) agreeing ∙ sym (ap (λ (n : ℕ). eqb n 1) (turn-out o s g not-itself))));
+    justified = justified-is c (turn o s) g .0 (justify c (turn o s) g (λ i. move .minimal .justifies .forces (on (turn o s)) agreeing ∙ sym (stands g not-itself)));
   }
 
 pub options-justify : OptionsJustify

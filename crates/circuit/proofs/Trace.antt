@@ -10,13 +10,13 @@ use Rattle.folds.proofs.Tests.{which}
 use Rattle.circuit.specs.declared.Ending.the-variants.{Found, Spent}
 use Rattle.circuit.specs.Tools.{isEmpty}
 use Rattle.circuit.specs.Circuit.{Circuit, WellFormed}
-use Rattle.circuit.specs.Evaluate.{Start, differ}
+use Rattle.circuit.specs.Evaluate.{KeepsCodes, differ}
 use Rattle.circuit.specs.Survey.{front, frontSize}
 use Rattle.circuit.specs.Run.{Entry, move, Ended, stop, after, run}
-use Rattle.circuit.specs.Promise.{NoFront, MoveIs, config, Promised, Demand2OnCircuits}
-use Rattle.circuit.proofs.Cone.{answer-satisfies}
+use Rattle.circuit.specs.Promise.{NoFront, EntryDone, config, Promised, Demand2OnCircuits}
+use Rattle.circuit.proofs.Found.{answer-satisfies}
 use Rattle.circuit.proofs.Survey.{survey-is}
-use Rattle.circuit.proofs.Moves.{no-front, some-front, move-of-front}
+use Rattle.circuit.proofs.Moves.{no-front, some-front, entry-done}
 
 -- ---- one turn of a run
 
@@ -39,13 +39,13 @@ run-step c s e es q = rw (q, run)
 not-found : (n : ℕ) → ¬ (Spent n ≡ Found)
 not-found n e = let z : _≡_ {A = ℕ} 0 1 = cc in omega arith
 
-module _ (c : Circuit) (ok : WellFormed c) (s : List ℕ) (k : Start c s) where
-  at-found : (es : List Entry) → isEmpty (front c s) ≡ true → Promised c es (config c s es) (stop Found s)
+module _ (c : Circuit) (ok : WellFormed c) (s : List ℕ) (k : KeepsCodes c s) where
+  at-found : (es : List Entry) → isEmpty (front c s) ≡ true → Promised c s es (config c s es) (stop Found s)
   at-found es e = record {
-    found = (λ f. (0, omega arith, no-front c ok s e), λ i. refl);
-    within = omega arith;
+    start = refl;
+    found = (λ f. (0, omega arith, no-front c ok s e, λ j l. absurd (omega arith)), λ i. refl);
     earlier = λ i h. absurd (omega arith);
-    at-found = λ f. no-front c ok s e;
+    at-found = λ f. (omega arith, no-front c ok s e);
     at-spent = λ n. absurd (n refl);
     moved = λ d i h. absurd (omega arith);
     flips = refl;
@@ -54,10 +54,10 @@ module _ (c : Circuit) (ok : WellFormed c) (s : List ℕ) (k : Start c s) where
     shows = λ f. answer-satisfies c ok s k e;
   }
 
-  at-spent : isEmpty (front c s) ≡ false → Promised c [] (config c s []) (stop (Spent (frontSize c s)) s)
+  at-spent : isEmpty (front c s) ≡ false → Promised c s [] (config c s []) (stop (Spent (frontSize c s)) s)
   at-spent e = record {
+    start = refl;
     found = (λ f. absurd (not-found (frontSize c s) f), λ i. absurd (none-empty (i .0) (i .1) (i .2)));
-    within = omega arith;
     earlier = λ i h. absurd (omega arith);
     at-found = λ f. absurd (not-found (frontSize c s) f);
     at-spent = λ n. (refl, (frontSize c s, refl, survey-is c ok s .front-size));
@@ -73,48 +73,55 @@ module _ (c : Circuit) (ok : WellFormed c) (s : List ℕ) (k : Start c s) where
       none-empty (suc i) h n = absurd (omega arith)
 
   one-more : (e : Entry) (es : List Entry) (r : Ended) → isEmpty (front c s) ≡ false
-      → Promised c es (config c (move c s e .next) es) r → Promised c (e ∷ es) (config c s (e ∷ es)) (after (move c s e .flips) r)
+      → Promised c (move c s e .next) es (config c (move c s e .next) es) r → Promised c s (e ∷ es) (config c s (e ∷ es)) (after (move c s e .flips) r)
   one-more e es r q p = record {
-    found = (λ f. (let (i, h, n) = p .found .0 f in (suc i, omega arith, n)), λ i. back (i .0) (i .1) (i .2));
-    within = omega (arith, p .within);
+    start = refl;
+    found = (λ f. (let (i, h, n, l) = p .found .0 f in (suc i, omega arith, n, first-at i l)), λ i. back (i .0) (i .1) (i .2) (i .3));
     earlier = before;
-    at-found = p .at-found;
+    at-found = λ f. (omega (arith, p .at-found f .0), p .at-found f .1);
     at-spent = λ n. (ap suc (p .at-spent n .0), p .at-spent n .1);
     moved = each-move;
-    flips = rw (sym (move-of-front c ok s k q e .differs)) (ap (λ (m : ℕ). differ s (move c s e .next) + m) (p .flips));
+    flips = rw (sym (entry-done c ok s k q e .differs)) (ap (λ (m : ℕ). differ c s (move c s e .next) + m) (p .flips));
     last = p .last;
     keeps = p .keeps;
     shows = p .shows;
   }
     where
-      back : (i : ℕ) → i ≤ suc (length es) → NoFront c (config c s (e ∷ es) i) → r .outcome .ending ≡ Found
-      back zero h n = absurd (some-front c ok s q n)
-      back (suc i) h n = p .found .1 (i, omega arith, n)
+      first-at : (i : ℕ) → ((j : ℕ) → j < i → ¬ NoFront c (config c (move c s e .next) es j)) → (j : ℕ) → j < suc i → ¬ NoFront c (config c s (e ∷ es) j)
+      first-at i l zero h n = some-front c ok s q n
+      first-at i l (suc j) h n = l j (omega arith) n
+
+      back : (i : ℕ) → i ≤ suc (length es) → NoFront c (config c s (e ∷ es) i) → ((j : ℕ) → j < i → ¬ NoFront c (config c s (e ∷ es) j)) → r .outcome .ending ≡ Found
+      back zero h n l = absurd (some-front c ok s q n)
+      back (suc i) h n l = p .found .1 (i, omega arith, n, λ j k. l (suc j) (omega arith))
 
       before : (i : ℕ) → i < suc (r .outcome .moves) → ¬ NoFront c (config c s (e ∷ es) i)
       before zero h n = some-front c ok s q n
       before (suc i) h n = p .earlier i (omega arith) n
 
       each-move : (d : Entry) (i : ℕ) → i < suc (r .outcome .moves)
-          → MoveIs c (config c s (e ∷ es) i) (getD (e ∷ es) i d) × (config c s (e ∷ es) (suc i) ≡ move c (config c s (e ∷ es) i) (getD (e ∷ es) i d) .next)
-      each-move d zero h = (move-of-front c ok s k q e, refl)
+          → EntryDone c (config c s (e ∷ es) i) (getD (e ∷ es) i d) × (config c s (e ∷ es) (suc i) ≡ move c (config c s (e ∷ es) i) (getD (e ∷ es) i d) .next)
+      each-move d zero h = (entry-done c ok s k q e, refl)
       each-move d (suc i) h = p .moved d i (omega arith)
 
   -- the two clauses of the recursion, as definitions of their own: written in place they cost the checker too many steps
-  no-entry : Promised c [] (config c s []) (run c s [])
+  no-entry : Promised c s [] (config c s []) (run c s [])
   no-entry = elim (which (isEmpty (front c s))) [
     | inl q ↦ rw (run-found c s [] q) (at-found [] q)
     | inr q ↦ rw (run-spent c s q) (at-spent q)
   ]
 
   an-entry : (e : Entry) (es : List Entry)
-      → (isEmpty (front c s) ≡ false → Promised c es (config c (move c s e .next) es) (run c (move c s e .next) es))
-      → Promised c (e ∷ es) (config c s (e ∷ es)) (run c s (e ∷ es))
+      → (isEmpty (front c s) ≡ false → Promised c (move c s e .next) es (config c (move c s e .next) es) (run c (move c s e .next) es))
+      → Promised c s (e ∷ es) (config c s (e ∷ es)) (run c s (e ∷ es))
   an-entry e es rest = elim (which (isEmpty (front c s))) [
     | inl q ↦ rw (run-found c s (e ∷ es) q) (at-found (e ∷ es) q)
     | inr q ↦ rw (run-step c s e es q) (one-more e es (run c (move c s e .next) es) q (rest q))
   ]
 
+promised : (c : Circuit) → WellFormed c → (s : List ℕ) → KeepsCodes c s → (es : List Entry) → Promised c s es (config c s es) (run c s es)
+promised c ok s k [] = no-entry c ok s k
+promised c ok s k (e ∷ es) = an-entry c ok s k e es (λ q. promised c ok (move c s e .next) (entry-done c ok s k q e .keeps) es)
+
 pub demand2-on-circuits : Demand2OnCircuits
-demand2-on-circuits c ok s k [] = no-entry c ok s k
-demand2-on-circuits c ok s k (e ∷ es) = an-entry c ok s k e es (λ q. demand2-on-circuits c ok (move c s e .next) (move-of-front c ok s k q e .keeps) es)
+demand2-on-circuits = record { surveys = survey-is; runs = promised }

@@ -1,5 +1,5 @@
 -- What turning values does: to the codes, and to the distance from an assignment. And what the gates are that an entry turns. Assumes nothing.
-use Prim.Native.Nat.{ℕ, zero, suc, _+_, _≤_, _<_}
+use Prim.Native.Nat.{ℕ, suc, _+_, _≤_, _<_}
 use mathlib.Core.Path.{_≡_, refl, sym, ap, _∙_}
 use mathlib.Core.Logic.{_⊎_, inl, inr}
 use mathlib.Core.Bool.{Bool, false, not, true≢false}
@@ -8,19 +8,19 @@ use mathlib.Core.List.{List·Memᴰ as In, List·Memᴰ·head as here, List·Mem
 use mathlib.Core.List.{Sublistᴰ as Sub}
 use native.Mathlib.Omega.{arith}
 use lib.ListN.{length, getD, set, length-set}
-use lib.Seq.{getD-set-same, getD-set-other, set-out}
+use lib.Seq.{getD-set-same, getD-set-other, set-out, ext-getD}
 use lib.Dec.{eqb, ltb}
-use borrow.Author.Tests.{eqb-true, eqb-false, eq-eqb, ltb-true, ltb-false}
+use borrow.Author.Tests.{eqb-true, eqb-false, eq-eqb, ltb-true, ltb-false, not-false}
 use Rattle.folds.proofs.Tests.{which}
-use Rattle.circuit.specs.Tools.{byte, Rising, isEmpty}
-use Rattle.circuit.specs.Circuit.{Circuit, isSome, coded, WellFormed, Configuration, on}
-use Rattle.circuit.specs.Evaluate.{Start, differ}
-use Rattle.circuit.specs.Survey.{front}
-use Rattle.circuit.specs.Run.{drawn, downOptions, turn}
+use Rattle.circuit.specs.Tools.{byte, Rising, upTo}
+use Rattle.circuit.specs.Circuit.{Circuit, isSome, coded, WellFormed, Configuration, on, justified}
+use Rattle.circuit.specs.Evaluate.{KeepsCodes, differ}
+use Rattle.circuit.specs.Source001.{Turned}
+use Rattle.circuit.specs.Run.{downOptions, turn}
 use Rattle.circuit.proofs.Values.{byte-bit, on-byte, bit-byte, bit-turned}
-use Rattle.circuit.proofs.Lists.{sub-in, sub-rising, pick-in}
+use Rattle.circuit.proofs.Lists.{sub-in, sub-rising, upTo-in, length-upTo, rising-upTo, select-none, select-length, select-less, select-zero}
 use Rattle.circuit.proofs.Gate.{laws}
-use Rattle.circuit.proofs.Cone.{in-front, front-seen}
+use Rattle.circuit.proofs.Cone.{unjustified-seen}
 
 -- ---- turning
 
@@ -35,8 +35,8 @@ set-cases s x b g = elim (which (eqb g x)) [
 ]
 
 module _ (c : Circuit) where
-  start-set : (s : List ℕ) (x : ℕ) (v : Bool) → coded c x ≡ false → Start c s → Start c (set s x (byte v))
-  start-set s x v u k = record {
+  keeps-set : (s : List ℕ) (x : ℕ) (v : Bool) → coded c x ≡ false → KeepsCodes c s → KeepsCodes c (set s x (byte v))
+  keeps-set s x v u k = record {
     configuration = record {
       long = length-set s x (byte v) ∙ k .configuration .long;
       bits = λ g. elim (set-cases s x (byte v) g) [ inl q ↦ rw q (byte-bit v) | inr q ↦ rw q (k .configuration .bits g) ];
@@ -44,15 +44,15 @@ module _ (c : Circuit) where
     shows = λ g h w q. ap (λ (n : ℕ). eqb n 1) (getD-set-other s x g (byte v) 0 (λ e. true≢false (sym (ap isSome q) ∙ ap (coded c) e ∙ u))) ∙ k .shows g h w q;
   }
 
-  pub start-turn : (o s : List ℕ) → ((x : ℕ) → In x o → coded c x ≡ false) → Start c s → Start c (turn o s)
-  start-turn [] s u k = k
-  start-turn (x ∷ o) s u k = start-turn o (set s x (byte (not (on s x)))) (λ y m. u y (there m)) (start-set s x (not (on s x)) (u x (here refl)) k)
+  pub keeps-turn : (o s : List ℕ) → ((x : ℕ) → In x o → coded c x ≡ false) → KeepsCodes c s → KeepsCodes c (turn o s)
+  keeps-turn [] s u k = k
+  keeps-turn (x ∷ o) s u k = keeps-turn o (set s x (byte (not (on s x)))) (λ y m. u y (there m)) (keeps-set s x (not (on s x)) (u x (here refl)) k)
 
-pub turn-out : (o s : List ℕ) (x : ℕ) → ¬ In x o → getD (turn o s) x 0 ≡ getD s x 0
+turn-out : (o s : List ℕ) (x : ℕ) → ¬ In x o → getD (turn o s) x 0 ≡ getD s x 0
 turn-out [] s x n = refl
 turn-out (y ∷ o) s x n = turn-out o (set s y (byte (not (on s y)))) x (λ m. n (there m)) ∙ getD-set-other s y x (byte (not (on s y))) 0 (λ e. n (here e))
 
-pub turn-in : (o s : List ℕ) (x : ℕ) → Rising o → x < length s → In x o → on (turn o s) x ≡ not (on s x)
+turn-in : (o s : List ℕ) (x : ℕ) → Rising o → x < length s → In x o → on (turn o s) x ≡ not (on s x)
 turn-in [] s x r h m = absurd (nowhere m)
 turn-in (y ∷ o) s x r h m = elim (cases m) [
   | inl e ↦ ap (λ (n : ℕ). eqb n 1) (turn-out o (set s y b) x (λ i. omega (arith, r .0 x i)))
@@ -66,25 +66,27 @@ turn-in (y ∷ o) s x r h m = elim (cases m) [
 
 -- ---- the distance
 
-differ-one : (s a : List ℕ) (x b : ℕ) → length s ≡ length a → x < length s → getD a x 0 ≡ b → eqb (getD s x 0) b ≡ false
-    → differ s a ≡ suc (differ (set s x b) a)
-differ-one [] a x b l h p q = absurd (omega arith)
-differ-one (y ∷ s) [] x b l h p q = absurd (omega arith)
-differ-one (y ∷ s) (z ∷ a) zero b l h p q = rw (p, q, eq-eqb b b refl) (omega arith)
-differ-one (y ∷ s) (z ∷ a) (suc x) b l h p q = omega (arith, differ-one s a x b (omega arith) (omega arith) p q)
+module _ (c : Circuit) (s a : List ℕ) where
+  pub differ-most : differ c s a ≤ c .gates
+  unfolding differ
+  differ-most = omega (arith, select-length (λ g. not (eqb (getD s g 0) (getD a g 0))) (upTo (c .gates)), length-upTo (c .gates))
 
-differ-self : (s : List ℕ) → differ s s ≡ 0
-differ-self [] = refl
-differ-self (x ∷ s) = rw (eq-eqb x x refl) (omega (arith, differ-self s))
+  pub differ-zero : Configuration c s → Configuration c a → differ c s a ≡ 0 → s ≡ a
+  unfolding differ
+  differ-zero k l e = ext-getD 0 s a (k .long ∙ sym (l .long)) (λ g h. eqb-true (getD s g 0) (getD a g 0)
+      (not-false (eqb (getD s g 0) (getD a g 0)) (select-zero _ (upTo (c .gates)) e g (upTo-in g (c .gates) (rw (k .long) at h)))))
 
-pub differ-zero : (s a : List ℕ) → length s ≡ length a → differ s a ≡ 0 → s ≡ a
-differ-zero [] [] l e = refl
-differ-zero [] (z ∷ a) l e = absurd (omega arith)
-differ-zero (y ∷ s) [] l e = absurd (omega arith)
-differ-zero (y ∷ s) (z ∷ a) l e = elim (which (eqb y z)) [
-  | inl q ↦ cc (eqb-true y z q, differ-zero s a (omega arith) (omega (arith, rw q at e)))
-  | inr q ↦ absurd (omega (arith, rw q at e))
-]
+  -- one byte made equal
+  differ-one : (x b : ℕ) → x < c .gates → x < length s → getD a x 0 ≡ b → eqb (getD s x 0) b ≡ false → differ c s a ≡ suc (differ c (set s x b) a)
+  unfolding differ
+  differ-one x b h l p q = select-less _ _ x (upTo (c .gates)) (rising-upTo (c .gates)) (upTo-in x (c .gates) h)
+      (rw (p, q))
+      (rw (p, getD-set-same s x b 0 l, eq-eqb b b refl))
+      (λ y m n. rw (getD-set-other s x y b 0 n))
+
+differ-self : (c : Circuit) (s : List ℕ) → differ c s s ≡ 0
+unfolding differ
+differ-self c s = ap length (select-none _ (upTo (c .gates)) (λ x m. rw (eq-eqb (getD s x 0) (getD s x 0) refl)))
 
 -- Gates that may be turned: each once, each there, none coded.
 pub record Turnable (c : Circuit) (o : List ℕ) : Type 0 where
@@ -94,10 +96,10 @@ pub record Turnable (c : Circuit) (o : List ℕ) : Type 0 where
 
 module _ (c : Circuit) (a : List ℕ) (ka : Configuration c a) where
   -- turning gates at which s and a differ takes s nearer to a by their number
-  pub differ-turn : (o s : List ℕ) → Turnable c o → Start c s → ((x : ℕ) → In x o → on a x ≡ not (on s x)) → differ s a ≡ length o + differ (turn o s) a
+  pub differ-turn : (o s : List ℕ) → Turnable c o → KeepsCodes c s → ((x : ℕ) → In x o → on a x ≡ not (on s x)) → differ c s a ≡ length o + differ c (turn o s) a
   differ-turn [] s t k f = omega arith
   differ-turn (x ∷ o) s t k f =
-      one ∙ (let ih = differ-turn o (set s x b) later (start-set c s x (not (on s x)) (t .free x (here refl)) k) rest in omega arith)
+      one ∙ (let ih = differ-turn o (set s x b) later (keeps-set c s x (not (on s x)) (t .free x (here refl)) k) rest in omega arith)
     where
       b : ℕ
       b = byte (not (on s x))
@@ -108,8 +110,8 @@ module _ (c : Circuit) (a : List ℕ) (ka : Configuration c a) where
       isnt : eqb (getD s x 0) b ≡ false
       isnt = bit-turned (getD s x 0) (k .configuration .bits x)
 
-      one : differ s a ≡ suc (differ (set s x b) a)
-      one = differ-one s a x b (k .configuration .long ∙ sym (ka .long)) (rw (k .configuration .long) (t .inside x (here refl))) is isnt
+      one : differ c s a ≡ suc (differ c (set s x b) a)
+      one = differ-one c s a x b (t .inside x (here refl)) (rw (k .configuration .long) (t .inside x (here refl))) is isnt
 
       rest : (y : ℕ) → In y o → on a y ≡ not (on (set s x b) y)
       rest y m = rw (getD-set-other s x y b 0 (λ e. omega (arith, t .rising .0 y m))) (f y (there m))
@@ -117,43 +119,45 @@ module _ (c : Circuit) (a : List ℕ) (ka : Configuration c a) where
       later : Turnable c o
       later = record { rising = t .rising .1; inside = λ y m. t .inside y (there m); free = λ y m. t .free y (there m) }
 
+pub turn-turns : (c : Circuit) (o s : List ℕ) → Turnable c o → Configuration c s → Turned o s (turn o s)
+turn-turns c o s t k = record { these = λ x i. turn-in o s x (t .rising) (rw (k .long) (t .inside x i)) i; others = turn-out o s }
+
 -- as many bytes differ as are turned
-pub turn-differs : (c : Circuit) (o s : List ℕ) → Turnable c o → Start c s → differ s (turn o s) ≡ length o
+pub turn-differs : (c : Circuit) (o s : List ℕ) → Turnable c o → KeepsCodes c s → differ c s (turn o s) ≡ length o
 turn-differs c o s t k =
-    let far = differ-turn c (turn o s) (start-turn c o s (t .free) k .configuration) o s t k
-    (λ x i. turn-in o s x (t .rising) (rw (k .configuration .long) (t .inside x i)) i) in
-    let near = differ-self (turn o s) in omega arith
+    let far = differ-turn c (turn o s) (keeps-turn c o s (t .free) k .configuration) o s t k (turn-turns c o s t (k .configuration) .these) in
+    let near = differ-self c (turn o s) in omega arith
 
 -- ---- the gates that an entry turns
 
-module _ (c : Circuit) (ok : WellFormed c) (s : List ℕ) where
-  module _ (g : ℕ) (m : In g (front c s)) where
+module _ (c : Circuit) (ok : WellFormed c) (s : List ℕ) (g : ℕ) (h : g < c .gates) where
+  module _ (u : justified c s g ≡ false) where
     pub option-sound : (o : List ℕ) → In o (downOptions c s g) → Sub o (c .kids g) × (1 ≤ length o)
     unfolding downOptions
-    option-sound = laws (c .kind g) (on s g) (front-seen c ok s g m .gate) .sound (on s) (c .kids g) (front-seen c ok s g m)
+    option-sound = (let e = unjustified-seen c ok s g h u in laws (c .kind g) (on s g) (e .gate) .sound (on s) (c .kids g) e)
 
     pub option-few : (1 ≤ length (downOptions c s g)) × (length (downOptions c s g) ≤ 8)
     unfolding downOptions
-    option-few = laws (c .kind g) (on s g) (front-seen c ok s g m .gate) .few (on s) (c .kids g) (front-seen c ok s g m)
+    option-few = (let e = unjustified-seen c ok s g h u in laws (c .kind g) (on s g) (e .gate) .few (on s) (c .kids g) e)
 
-    -- an option turns children, and no child is coded
+    -- an option turns children
+    pub option-kid : (o : List ℕ) → In o (downOptions c s g) → (x : ℕ) → In x o → In x (c .kids g)
+    option-kid o n x i = sub-in x o (c .kids g) (option-sound o n .0) i
+
+    -- and no child is coded
     pub option-turnable : (o : List ℕ) → In o (downOptions c s g) → Turnable c o
-    option-turnable o n =
-        let h = in-front c ok s g m .0 in
-        let kid : (x : ℕ) → In x o → In x (c .kids g) = λ x i. sub-in x o (c .kids g) (option-sound o n .0) i in
-        record {
-          rising = sub-rising o (c .kids g) (option-sound o n .0) (ok .rising g h);
-          inside = λ x i. omega (arith, ok .below g h x (kid x i));
-          free = λ x i. ok .free g h x (kid x i);
-        }
-
-    pub alone-turnable : coded c g ≡ false → Turnable c (g ∷ [])
-    alone-turnable u = record {
-      rising = (λ y n. absurd (nowhere n), tt);
-      inside = λ x n. elim (cases n) [ inl e ↦ rw e (in-front c ok s g m .0) | inr z ↦ absurd (nowhere z) ];
-      free = λ x n. elim (cases n) [ inl e ↦ rw e u | inr z ↦ absurd (nowhere z) ];
+    option-turnable o n = record {
+      rising = sub-rising o (c .kids g) (option-sound o n .0) (ok .rising g h);
+      inside = λ x i. omega (arith, ok .below g h x (option-kid o n x i));
+      free = λ x i. ok .free g h x (option-kid o n x i);
     }
 
-  pub drawn-in : (d : ℕ) → isEmpty (front c s) ≡ false → In (drawn c s d) (front c s)
-  unfolding drawn
-  drawn-in d e = pick-in (front c s) d 0 e
+  pub alone-turnable : coded c g ≡ false → Turnable c (g ∷ [])
+  alone-turnable u = record {
+    rising = (nowhere-below, tt);
+    inside = λ x n. elim (cases n) [ inl e ↦ rw e h | inr z ↦ absurd (nowhere z) ];
+    free = λ x n. elim (cases n) [ inl e ↦ rw e u | inr z ↦ absurd (nowhere z) ];
+  }
+    where
+      nowhere-below : (y : ℕ) → In y [] → g < y
+      nowhere-below y n = absurd (nowhere n)

@@ -29,7 +29,7 @@ abbrev pub gatesIn : Circuit → (ℕ → Bool) → List ℕ
 gatesIn c p = select p (upTo (c .gates))
 
 -- What Check demands of a map, as far as searching goes by it.
---     fits      "a fan-in isn't allowed for its kind" is refused
+--     fits      "Fan-in: 0 for an input, 1 for NOT, 2 for XOR, 2 to 8 for AND and OR."
 --     below     "It is below its parent's number"
 --     rising    "a gate's children strictly ascend"
 --     free      "A coded gate is nobody's child."
@@ -50,7 +50,7 @@ pub record Configuration (c : Circuit) (s : List ℕ) : Type 0 where
   pub long : length s ≡ c .gates
   pub bits : (g : ℕ) → getD s g 0 ≤ 1
 
--- is gate g at 1 in the configuration s
+-- is the byte of gate g in the configuration s 1 (or of place g in a row)
 abbrev pub on : List ℕ → ℕ → Bool
 on s g = eqb (getD s g 0) 1
 

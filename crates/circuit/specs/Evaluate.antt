@@ -1,5 +1,5 @@
 -- Document 01, 'States, assignments, marking'. Assumes nothing.
-use Prim.Native.Nat.{ℕ, zero, suc, _+_, _≤_, _<_}
+use Prim.Native.Nat.{ℕ, zero, suc, _≤_, _<_}
 use mathlib.Core.Path.{_≡_}
 use mathlib.Core.Logic.{_↔_}
 use mathlib.Core.Bool.{Bool, true, false, cond, not}
@@ -30,7 +30,7 @@ pub record Row (c : Circuit) (row : List ℕ) : Type 0 where
 unfoldable pub rowOf : Circuit → List ℕ → List ℕ
 rowOf c s = map (λ g. getD s g 0) (inputs c)
 
--- The values of the gates below n: an input's as `at` has it, any other gate's as its children give it.
+-- the values of the gates below n: an input's as `at` has it, any other gate's as its children give it
 unfoldable pub values : Circuit → (ℕ → Bool) → ℕ → List ℕ
 values c at zero = []
 values c at (suc g) = values c at g ++ (byte (cond (isInput (c .kind g)) (at g) (given c (values c at g) g)) ∷ [])
@@ -71,16 +71,15 @@ Satisfiable c = (a : List ℕ) × Satisfying c a
 
 -- ---- starts
 
--- "A start is the configuration lent to Run; it keeps the codes if every coded gate has its code in it." This is one that keeps them.
-pub record Start (c : Circuit) (s : List ℕ) : Type 0 where
+-- "A start is the configuration lent to Run; it keeps the codes if every coded gate has its code in it."
+pub record KeepsCodes (c : Circuit) (s : List ℕ) : Type 0 where
   pub configuration : Configuration c s
   pub shows : ShowsCodes c s
 
--- "A start and an assignment differ at a gate if their bytes for it are unequal; every gate counts there": at how many they differ.
-abbrev pub differ : List ℕ → List ℕ → ℕ
-differ [] a = 0
-differ (x ∷ s) [] = suc (differ s [])
-differ (x ∷ s) (y ∷ a) = byte (not (eqb x y)) + differ s a
+-- "A start and an assignment differ at a gate if their bytes for it are unequal; every gate counts there, inputs and gates outside the cone too.":
+-- at how many gates they differ
+unfoldable pub differ : Circuit → List ℕ → List ℕ → ℕ
+differ c s a = length (gatesIn c (λ g. not (eqb (getD s g 0) (getD a g 0))))
 
 -- ---- the statements
 
@@ -96,5 +95,6 @@ EvaluateIs =
     (c : Circuit) → WellFormed c → (row : List ℕ) → Row c row
     → Evaluated c row (evaluate c row) × ((s : List ℕ) → Evaluated c row s → s ≡ evaluate c row)
 
+-- Mark says yes to the satisfying assignments.
 abbrev pub MarkIs : Type 0
 MarkIs = (c : Circuit) (s : List ℕ) → Configuration c s → (mark c s ≡ true) ↔ Satisfying c s

@@ -31,6 +31,10 @@ drawn c s draw = pick (front c s) draw 0
 unfoldable pub downOptions : Circuit → List ℕ → ℕ → List (List ℕ)
 downOptions c s g = options (c .kind g) (on s g) (on s) (c .kids g)
 
+-- "option modulo the number of options"
+unfoldable pub optionAt : Circuit → List ℕ → ℕ → ℕ → List ℕ
+optionAt c s g i = pick (downOptions c s g) i []
+
 -- the configuration s with the gates of a list turned
 abbrev pub turn : List ℕ → List ℕ → List ℕ
 turn [] s = s
@@ -42,12 +46,12 @@ greedyOptions c s os = select (λ o. holdsOfAll (λ p. leb (interestSize c (turn
 
 -- The gates that a choice turns where gate g is drawn.
 --     Greedy    "of the options with the smallest interest set after the move, in rising order, the one at option modulo their number"
---     Down      "option modulo the number of options"
+--     Down      as its option says
 --     Up        "turn the drawn gate itself, option byte unread. On a coded gate, up acts as down."
 unfoldable pub chosen : Circuit → List ℕ → ℕ → Choice → List ℕ
 chosen c s g (Greedy i) = pick (greedyOptions c s (downOptions c s g)) i []
-chosen c s g (Down i) = pick (downOptions c s g) i []
-chosen c s g (Up i) = cond (coded c g) (pick (downOptions c s g) i []) (g ∷ [])
+chosen c s g (Down i) = optionAt c s g i
+chosen c s g (Up i) = cond (coded c g) (optionAt c s g i) (g ∷ [])
 
 -- the gates that an entry turns
 unfoldable pub turned : Circuit → List ℕ → Entry → List ℕ
@@ -73,7 +77,7 @@ pub record Ended : Type 0 where
 abbrev pub stop : Ending → List ℕ → Ended
 stop e s = record { outcome = record { ending = e; moves = 0; flips = 0 }; last = s }
 
--- "Moves is the number of entries done, flips the sum of values turned.": the run r after one entry more, which turned k values
+-- "Moves is the number of entries done, flips the sum of values turned.": a run whose first entry turned k values and which goes on as r
 abbrev pub after : ℕ → Ended → Ended
 after k r = record {
   outcome = record { ending = r .outcome .ending; moves = suc (r .outcome .moves); flips = k + r .outcome .flips };

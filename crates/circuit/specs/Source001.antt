@@ -9,7 +9,7 @@ use mathlib.Core.Bool.{Bool, true, false, cond, not}
 use mathlib.Core.Option.{Option, none, some}
 use mathlib.Core.List.{List, [], _∷_, map, List·Memᴰ as In}
 use lib.ListN.{length, getD}
-use Rattle.circuit.specs.Tools.{byte, same, member, Rising, select}
+use Rattle.circuit.specs.Tools.{byte, same, member, Rising, Distinct, select}
 use Rattle.circuit.specs.Gate.{Kind, Not, And, Or, Xor, isInput, fanInFits, gives, relevant, options}
 use Rattle.circuit.specs.Circuit.{Circuit, coded, WellFormed, Configuration, on, justified}
 use Rattle.circuit.specs.Survey.{cone, inFront, front, interest, survey, frontSize, interestSize}
@@ -49,7 +49,8 @@ pub record Minimal (f : List Bool → Bool) (xs : List ℕ) (v : Bool) (σ : Par
   pub justifies : Justification f xs v σ
   pub least : (ρ : Partial) → Justification f xs v ρ → Subset ρ σ → Subset σ ρ
 
--- Child x is in some subset minimal justification. Difference 1: in one that agrees with the configuration, as in 001's worked example.
+-- Child x is in some subset minimal justification. Difference 1: "001's written condition doesn't say that the justification must agree with the
+-- configuration; its worked example does, and the example decides."
 pub record TakesPart (f : List Bool → Bool) (xs : List ℕ) (v : Bool) (at : ℕ → Bool) (x : ℕ) : Type 0 where
   pub by : Partial
   pub minimal : Minimal f xs v by
@@ -62,22 +63,22 @@ abbrev pub contrary : Option Bool → Bool → Bool
 contrary none b = false
 contrary (some a) b = not (same a b)
 
-abbrev pub turns : Partial → (ℕ → Bool) → List ℕ → List ℕ
-turns σ at xs = select (λ x. contrary (σ x) (at x)) xs
+abbrev pub changed : Partial → (ℕ → Bool) → List ℕ → List ℕ
+changed σ at xs = select (λ x. contrary (σ x) (at x)) xs
 
 -- The move of a subset minimal justification, 001's "flips the values of a subset of g's children so that g becomes locally justified": o are the
 -- children that get another value by it. (001's Algorithm 1 takes any justification; its section 3.1 and document 01 take the minimal ones.)
 pub record MoveOf (f : List Bool → Bool) (xs : List ℕ) (v : Bool) (at : ℕ → Bool) (o : List ℕ) : Type 0 where
   pub by : Partial
   pub minimal : Minimal f xs v by
-  pub turned : o ≡ turns by at xs
+  pub is : o ≡ changed by at xs
 
 -- ---- cone, front, interest set
 
--- The smallest set that has `From`, and with each gate g in it each x that g `Brings`.
-pub data Smallest (From : ℕ → Type 0) (Brings : ℕ → ℕ → Type 0) : ℕ → Type 0 where
-  first : {x : ℕ} → From x → Smallest From Brings x
-  then : {g x : ℕ} → Smallest From Brings g → Brings g x → Smallest From Brings x
+-- The smallest set that has what `First` has, and with each gate g each x for which `Next g x`.
+pub data Smallest (First : ℕ → Type 0) (Next : ℕ → ℕ → Type 0) : ℕ → Type 0 where
+  first : {x : ℕ} → First x → Smallest First Next x
+  then : {g x : ℕ} → Smallest First Next g → Next g x → Smallest First Next x
 
 -- "The descendant .. relations are defined in the usual way as the transitive closures of the child .. relations": x is a descendant of g
 pub data Descendant (c : Circuit) (g : ℕ) : ℕ → Type 0 where
@@ -113,21 +114,22 @@ module _ (c : Circuit) where
     abbrev pub Front : ℕ → Type 0
     Front g = Cone g × ¬ Justified g
 
-    -- "it belongs to the frontier .. or is a descendant of a gate in it". Difference 2, second half: NOT gates count.
+    -- "it belongs to the frontier .. or is a descendant of a gate in it". Difference 2, second half: "NOT gates
+    -- count like others (001 leaves them out)".
     abbrev pub Interesting : ℕ → Type 0
     Interesting x = Front x ⊎ ((g : ℕ) × Front g × Descendant c g x)
 
 -- ---- the statements
 
 -- `Smallest` has what it starts with, is closed, and is in every set that is so.
-pub record IsClosed (From : ℕ → Type 0) (Brings : ℕ → ℕ → Type 0) (S : ℕ → Type 0) : Type 0 where
-  pub has : (x : ℕ) → From x → S x
-  pub closed : (g x : ℕ) → S g → Brings g x → S x
+pub record IsClosed (First : ℕ → Type 0) (Next : ℕ → ℕ → Type 0) (S : ℕ → Type 0) : Type 0 where
+  pub has : (x : ℕ) → First x → S x
+  pub closed : (g x : ℕ) → S g → Next g x → S x
 
 abbrev pub SmallestIs : Type 1
 SmallestIs =
-    (From : ℕ → Type 0) (Brings : ℕ → ℕ → Type 0)
-    → IsClosed From Brings (Smallest From Brings) × ((S : ℕ → Type 0) → IsClosed From Brings S → (x : ℕ) → Smallest From Brings x → S x)
+    (First : ℕ → Type 0) (Next : ℕ → ℕ → Type 0)
+    → IsClosed First Next (Smallest First Next) × ((S : ℕ → Type 0) → IsClosed First Next S → (x : ℕ) → Smallest First Next x → S x)
 
 -- "NOT(v) is t iff v is f", "OR(..) is t iff at least one of .. is t", "AND(..) is t iff all .. are t", "XOR(..) is t iff exactly one of .. is t"
 pub record Functions : Type 0 where
@@ -155,23 +157,27 @@ RelevantIs001 =
     (k : Kind) (v : Bool) (at : ℕ → Bool) (xs : List ℕ) → Seen k at xs v
     → (x : ℕ) → (In x xs × (relevant k v (at x) ≡ true)) ↔ TakesPart (gives k) xs v at x
 
--- The down options, at an unjustified gate, are exactly the moves of the subset minimal justifications. (Their numbers and order are document 01's:
--- the definition `options` has them.)
+-- The down options, at an unjustified gate, are exactly the moves of the subset minimal justifications, each once. ("Only these minimal
+-- justifications are used." Their order is document 01's own, and `options` lists them so.)
 abbrev pub OptionsAre001 : Type 0
 OptionsAre001 =
     (k : Kind) (v : Bool) (at : ℕ → Bool) (xs : List ℕ) → Seen k at xs (not v)
-    → (o : List ℕ) → In o (options k v at xs) ↔ MoveOf (gives k) xs v at o
+    → ((o : List ℕ) → In o (options k v at xs) ↔ MoveOf (gives k) xs v at o) × Distinct (options k v at xs)
 
 -- the same on circuits, for the options that moves pick from
 abbrev pub DownOptionsAre001 : Type 0
 DownOptionsAre001 =
     (c : Circuit) → WellFormed c → (s : List ℕ) (g : ℕ) → g < c .gates → justified c s g ≡ false
-    → (o : List ℕ) → In o (downOptions c s g) ↔ MoveOf (gives (c .kind g)) (c .kids g) (on s g) (on s) o
+    → ((o : List ℕ) → In o (downOptions c s g) ↔ MoveOf (gives (c .kind g)) (c .kids g) (on s g) (on s) o) × Distinct (downOptions c s g)
 
--- What turning the gates o does: they have the other value, all other gates keep theirs, gate g among these, and g is justified.
+-- from s to t the gates o have turned, and no other byte is another
+pub record Turned (o s t : List ℕ) : Type 0 where
+  pub these : (x : ℕ) → In x o → on t x ≡ not (on s x)
+  pub others : (x : ℕ) → ¬ In x o → getD t x 0 ≡ getD s x 0
+
+-- Each option makes its gate justified, which keeps its value.
 pub record Justifies (c : Circuit) (s : List ℕ) (g : ℕ) (o : List ℕ) : Type 0 where
-  pub turned : (x : ℕ) → In x o → on (turn o s) x ≡ not (on s x)
-  pub others : (x : ℕ) → ¬ In x o → getD (turn o s) x 0 ≡ getD s x 0
+  pub turns : Turned o s (turn o s)
   pub not-itself : ¬ In g o
   pub justified : Justified c (turn o s) g
 

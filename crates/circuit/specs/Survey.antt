@@ -1,4 +1,5 @@
--- Document 01, 'Survey'. That cone, front and interest set are those of source document 001 is `SurveyIs001` of Source001.antt. Assumes nothing.
+-- Document 01, 'Survey', from the cone on: `justified` stands in Circuit.antt and the table of relevant children in Gate.antt. That cone, front and
+-- interest set are those of source document 001, save two differences, is `SurveyIs001` of Source001.antt. Assumes nothing.
 use Prim.Native.Nat.{ℕ, _+_, _*_}
 use mathlib.Core.Bool.{Bool, cond, not}
 use mathlib.Core.List.{List, [], map}

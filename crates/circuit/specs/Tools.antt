@@ -29,6 +29,11 @@ abbrev pub Rising : List ℕ → Type 0
 Rising [] = Unit {0}
 Rising (x ∷ xs) = ((y : ℕ) → In y xs → x < y) × Rising xs
 
+-- no element stands twice
+abbrev pub Distinct : List (List ℕ) → Type 0
+Distinct [] = Unit {0}
+Distinct (o ∷ os) = (¬ In o os) × Distinct os
+
 -- each element as a list of its own
 abbrev pub singles : List ℕ → List (List ℕ)
 singles [] = []
