@@ -6,11 +6,11 @@ use Rattle.circuit.specs.Circuit.{justified}
 use Rattle.circuit.specs.Evaluate.{inputsBefore, rowOf, values, evaluate, mark, differ}
 use Rattle.circuit.specs.Survey.{spread, reasons, cone, inFront, front, interest, survey, frontSize, interestSize}
 use Rattle.circuit.specs.Run.{drawn, downOptions, optionAt, greedyOptions, chosen, turned, run, answer}
-use Rattle.circuit.specs.Bench.{adder, clash, uncoded, corner, nand, gap, three, nots, Examples}
+use Rattle.circuit.specs.Bench.{adder, clash, uncoded, corner, nand, gap, three, tie, nots, Examples}
 
 -- every definition that the examples compute with, under one name
 opened : ℕ
-unfolding _and_ _or_ allBelow descend justified inputsBefore rowOf values evaluate mark differ spread reasons cone inFront front interest survey frontSize interestSize drawn downOptions optionAt greedyOptions chosen turned run answer adder clash uncoded corner nand gap three nots
+unfolding _and_ _or_ allBelow descend justified inputsBefore rowOf values evaluate mark differ spread reasons cone inFront front interest survey frontSize interestSize drawn downOptions optionAt greedyOptions chosen turned run answer adder clash uncoded corner nand gap three tie nots
 opened = 0
 
 pub examples : Examples
@@ -33,7 +33,7 @@ examples = record {
   and-at-zero-options = refl;
   or-at-one-options = refl;
   not-options = refl;
-  xor-options = refl;
+  xor-options = (refl, refl);
   drawn-gate = (refl, refl);
   drawn-turns = (refl, refl, refl);
   option-wraps = (refl, refl);
@@ -45,10 +45,13 @@ examples = record {
   greedy-turns = (refl, refl);
   greedy-ties = (refl, refl);
   greedy-wraps = refl;
+  greedy-some-tie = (refl, refl);
   found-without-entry = refl;
   found-without-code = refl;
   found-at-once = refl;
   found-at-last = refl;
+  as-option-one = refl;
+  found-with-option = refl;
   spent = refl;
   first-move = refl;
   two-moves = refl;

@@ -14,7 +14,7 @@ use Rattle.circuit.specs.Tools.{Rising, holdsOfAll}
 use Rattle.circuit.specs.Gate.{fanInFits}
 use Rattle.circuit.specs.Circuit.{Circuit, coded, WellFormed, on}
 use Rattle.circuit.specs.Evaluate.{showsCode, KeepsCodes}
-use Rattle.circuit.specs.Bench.{adder, clash, uncoded, corner, nand, gap, three, nots, A, B, C, ones, Fitting}
+use Rattle.circuit.specs.Bench.{adder, clash, uncoded, corner, nand, gap, three, tie, nots, one, A, B, C, ones, Fitting}
 use Rattle.circuit.proofs.Lists.{all-in}
 use Rattle.circuit.proofs.Evaluate.{shows-code}
 
@@ -66,7 +66,7 @@ keeps-codes c s e = record {
 -- ---- those of the examples
 
 pub fitting : Fitting
-unfolding _and_ allBelow adder clash uncoded corner nand gap three nots
+unfolding _and_ allBelow adder clash uncoded corner nand gap three tie nots
 fitting = record {
   circuits = (
     well-formed adder refl,
@@ -76,10 +76,16 @@ fitting = record {
     well-formed nand refl,
     well-formed gap refl,
     well-formed three refl,
+    well-formed tie refl,
     well-formed nots refl,
   );
   on-adder = (keeps-codes adder A refl, keeps-codes adder B refl, keeps-codes adder C refl);
-  on-clash = keeps-codes clash (0 ∷ 0 ∷ 1 ∷ []) refl;
+  on-clash = (keeps-codes clash (0 ∷ 0 ∷ 1 ∷ []) refl, keeps-codes clash (1 ∷ 0 ∷ 1 ∷ []) refl);
+  on-uncoded = keeps-codes uncoded (one 1) refl;
   on-corner = keeps-codes corner (0 ∷ 0 ∷ 1 ∷ 1 ∷ 1 ∷ []) refl;
+  on-nand = (keeps-codes nand (0 ∷ 1 ∷ 0 ∷ 1 ∷ []) refl, keeps-codes nand (1 ∷ 1 ∷ 0 ∷ 1 ∷ []) refl);
+  on-gap = keeps-codes gap (0 ∷ 1 ∷ 0 ∷ 0 ∷ []) refl;
+  on-three = keeps-codes three (0 ∷ 0 ∷ 0 ∷ 1 ∷ []) refl;
+  on-tie = keeps-codes tie (0 ∷ 0 ∷ 0 ∷ 0 ∷ 1 ∷ []) refl;
   on-nots = keeps-codes nots ones refl;
 }

@@ -114,7 +114,7 @@ at-once c s ds n e = record {
   tape = map idle ds;
   draws = idle-draws ds;
   plain = idle-plain ds;
-  found = rw (run-found c s (map idle ds) e);
+  ends-found = rw (run-found c s (map idle ds) e);
   moves = rw (run-found c s (map idle ds) e) (omega arith);
   flips = rw (run-found c s (map idle ds) e) (omega arith);
 }
@@ -125,7 +125,7 @@ onward c s a d ds m n e t q r = record {
   tape = x ∷ r .tape;
   draws = ap (λ (l : List ℕ). d ∷ l) (r .draws);
   plain = λ y i. elim (cases i) [ inl w ↦ rw w (t .plain) | inr j ↦ r .plain y j ];
-  found = rw same-run (r .found);
+  ends-found = rw same-run (r .ends-found);
   moves = rw same-run (omega (arith, r .moves, t .some-gone));
   flips = rw same-run (omega (arith, r .flips));
 }
@@ -176,6 +176,6 @@ pub demand3-on-circuits : Demand3OnCircuits
 demand3-on-circuits c ok s k = record {
   only = λ tape f. (answer c (run c s tape .last), demand2-on-circuits .runs c ok s k tape .shows f);
   some-tape = λ r. (let z = zeros c ok s k (r .0) (r .1) in
-      (z .tape, λ e m. (zeros-fit c ok s k (r .0) (r .1) e m, z .plain e m .1), zeros-few c ok s k (r .0) (r .1), z .found));
+      (z .tape, λ e m. (zeros-fit c ok s k (r .0) (r .1) e m, z .plain e m .1), zeros-few c ok s k (r .0) (r .1), z .ends-found));
   bounded = λ a sat ds l. finish c ok a sat ds s k (omega arith);
 }

@@ -145,13 +145,13 @@ module _ (f : List Bool → Bool) (v : Bool) (xs : List ℕ) where
     pub one-minimal : (x : ℕ) → In x xs → Minimal f xs v (just x v)
     one-minimal x m = record {
       justifies = one-justifies x m;
-      least = λ ρ j u y b e. (let (z, i, w) = meets ρ j in let p = just-has x v y b e in let q = just-has x v z v (u z v w) in rw (p .0, ← q .0, ← p .1) w);
+      no-smaller = λ ρ j u y b e. (let (z, i, w) = meets ρ j in let p = just-has x v y b e in let q = just-has x v z v (u z v w) in rw (p .0, ← q .0, ← p .1) w);
     }
 
     pub one-only : (σ : Partial) → Minimal f xs v σ → (x : ℕ) × In x xs × Has σ x v × ((y : ℕ) (b : Bool) → Has σ y b → y ≡ x)
     one-only σ j =
         let (x, m, w) = meets σ (j .justifies) in
-        (x, m, w, λ y b e. just-has x v y b (j .least (just x v) (one-justifies x m) (λ z d q. (let p = just-has x v z d q in rw (p .0, ← p .1) w)) y b e) .0)
+        (x, m, w, λ y b e. just-has x v y b (j .no-smaller (just x v) (one-justifies x m) (λ z d q. (let p = just-has x v z d q in rw (p .0, ← p .1) w)) y b e) .0)
 
   module _ (h : Each f v) (r : Rising xs) where
     pub total : (σ : Partial) → Justification f xs v σ → (x : ℕ) → In x xs → (b : Bool) × Has σ x b
@@ -169,5 +169,5 @@ module _ (f : List Bool → Bool) (v : Bool) (xs : List ℕ) where
     pub each-minimal : (τ : ℕ → Bool) → f (map τ xs) ≡ v → Minimal f xs v (restrict τ xs)
     each-minimal τ e = record {
       justifies = restrict-justifies τ e;
-      least = λ ρ j u x b q. (let (d, w) = total ρ j x (restrict-has τ xs x b q .0) in w ∙ sym (u x d w) ∙ q);
+      no-smaller = λ ρ j u x b q. (let (d, w) = total ρ j x (restrict-has τ xs x b q .0) in w ∙ sym (u x d w) ∙ q);
     }

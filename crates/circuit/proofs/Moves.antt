@@ -1,8 +1,8 @@
 -- What a move does. Assumes nothing.
 use Prim.Native.Nat.{ℕ, _≤_, _<_}
-use mathlib.Core.Path.{_≡_, refl}
+use mathlib.Core.Path.{_≡_, refl, sym}
 use mathlib.Core.Logic.{inl, inr, _↔_}
-use mathlib.Core.Bool.{true, false, true≢false}
+use mathlib.Core.Bool.{Bool, true, false, true≢false}
 use mathlib.Core.List.{List, [], _∷_}
 use mathlib.Core.List.{List·Memᴰ as In}
 use native.Mathlib.Omega.{arith}
@@ -17,8 +17,9 @@ use Rattle.circuit.specs.Circuit.{Circuit, coded, WellFormed, justified}
 use Rattle.circuit.specs.Evaluate.{KeepsCodes}
 use Rattle.circuit.specs.Survey.{front, frontSize, interestSize}
 use Rattle.circuit.specs.Run.{Entry, drawn, downOptions, optionAt, turn, greedyOptions, chosen, turned}
-use Rattle.circuit.specs.Promise.{NoFront, OptionOf, GreedyOptionsAre, DownTurns, Turns, EntryDone, MoveIs}
-use Rattle.circuit.proofs.Lists.{select-in, in-select, all-in, in-all, least, in-length, some-isEmpty, isEmpty-none, pick-in, sub-length}
+use Rattle.circuit.specs.Source001.{OptionOf}
+use Rattle.circuit.specs.Promise.{NoFront, GreedyOptionsAre, DownTurns, Turns, EntryDone, MoveIs}
+use Rattle.circuit.proofs.Lists.{select-in, in-select, select-same, all-in, in-all, least, in-length, some-isEmpty, isEmpty-none, pick-in, sub-length}
 use Rattle.circuit.proofs.Gate.{narrow}
 use Rattle.circuit.proofs.Cone.{unjustified-seen, in-front}
 use Rattle.circuit.proofs.Turns.{Turnable, keeps-turn, turn-turns, turn-differs, option-sound, option-few, option-turnable, alone-turnable}
@@ -27,20 +28,41 @@ use Rattle.circuit.proofs.Survey.{survey-is}
 
 -- ---- greedy
 
+module _ (c : Circuit) (s : List ℕ) (os : List (List ℕ)) where
+  -- no option has a smaller interest set after the move
+  abbrev Best : List ℕ → Type 0
+  Best o = (p : List ℕ) → In p os → interestSize c (turn o s) ≤ interestSize c (turn p s)
+
+  abbrev best : List ℕ → Bool
+  best o = holdsOfAll (λ p. leb (interestSize c (turn o s)) (interestSize c (turn p s))) os
+
+  best-is : (o : List ℕ) → (best o ≡ true) ↔ Best o
+  best-is o = (λ q p n. leb-true (interestSize c (turn o s)) (interestSize c (turn p s)) (all-in _ os q p n), λ h. in-all _ os (λ p n. le-leb _ _ (h p n)))
+
+  greedy-in : (o : List ℕ) → In o (greedyOptions c s os) ↔ (In o os × Best o)
+  unfolding greedyOptions
+  greedy-in o = (
+    λ m. (let (i, q) = select-in best o os m in (i, best-is o .0 q)),
+    λ h. in-select best o os (h .0) (best-is o .1 (h .1)),
+  )
+
+-- two tests that tell the same
+same-test : (a b : Bool) → (a ≡ true → b ≡ true) → (b ≡ true → a ≡ true) → a ≡ b
+same-test true b f g = sym (f refl)
+same-test false true f g = g refl
+same-test false false f g = refl
+
 pub greedy-options-are : GreedyOptionsAre
 unfolding greedyOptions
-greedy-options-are c s os o = (
-  λ m. (let (i, q) = select-in _ o os m in (i, λ p n. leb-true (interestSize c (turn o s)) (interestSize c (turn p s)) (all-in _ os q p n))),
-  λ h. in-select (λ q. holdsOfAll (λ p. leb (interestSize c (turn q s)) (interestSize c (turn p s))) os) o os (h .0)
-      (in-all _ os (λ p n. le-leb _ _ (h .1 p n))),
-)
+greedy-options-are c s os test is = select-same (best c s os) test os (λ o m.
+    same-test (best c s os o) (test o) (λ q. is o m .1 (best-is c s os o .0 q)) (λ q. best-is c s os o .1 (is o m .0 q)))
 
 -- there is a best option
 some-greedy : (c : Circuit) (s : List ℕ) (os : List (List ℕ)) → isEmpty os ≡ false → isEmpty (greedyOptions c s os) ≡ false
 some-greedy c s [] e = absurd (true≢false e)
 some-greedy c s (x ∷ xs) e =
     let (o, i, h) = least (λ p. interestSize c (turn p s)) x xs in
-    some-isEmpty (greedyOptions c s (x ∷ xs)) (in-length o (greedyOptions c s (x ∷ xs)) (greedy-options-are c s (x ∷ xs) o .1 (i, h)))
+    some-isEmpty (greedyOptions c s (x ∷ xs)) (in-length o (greedyOptions c s (x ∷ xs)) (greedy-in c s (x ∷ xs) o .1 (i, h)))
 
 -- ---- a choice
 
@@ -78,15 +100,15 @@ module _ (c : Circuit) (ok : WellFormed c) (s : List ℕ) (g : ℕ) (m : In g (f
 
   down-turns : (i : ℕ) → DownTurns c s g i (optionAt c s g i)
   unfolding optionAt
-  down-turns i = record { option = option-is _ .0 (picked i); place = refl }
+  down-turns i = record { option = option-is _ .0 (picked i); option-place = refl }
 
   choosing : (choice : Choice) → Choosing choice (chosen c s g choice)
   unfolding chosen
   choosing (Greedy i) =
       let os = downOptions c s g in
       let o = pick (greedyOptions c s os) i [] in
-      let (n, f) = greedy-options-are c s os o .0 (pick-in (greedyOptions c s os) i [] (some-greedy c s os some-down)) in
-      by-option (Greedy i) o n (record { option = option-is o .0 n; smallest = λ p q. f p (option-is p .1 q); place = refl })
+      let (n, f) = greedy-in c s os o .0 (pick-in (greedyOptions c s os) i [] (some-greedy c s os some-down)) in
+      by-option (Greedy i) o n (record { option = option-is o .0 n; smallest = λ p q. f p (option-is p .1 q); option-place = refl })
   choosing (Down i) = by-option (Down i) (optionAt c s g i) (picked i) (down-turns i)
   choosing (Up i) = elim (which (coded c g)) [
     | inl q ↦ rw q (by-option (Up i) (optionAt c s g i) (picked i) (inl (q, down-turns i)))
@@ -112,10 +134,11 @@ module _ (c : Circuit) (ok : WellFormed c) (s : List ℕ) where
       let m = drawn-in (e .draw) q in
       let t = choosing c ok s (drawn c s (e .draw)) m (e .choice) in
       record {
-        place = refl;
+        draw-place = refl;
         in-front = survey-is c ok s .listed .has (drawn c s (e .draw)) .0 m;
-        choice = t .as-said;
+        as-chosen = t .as-said;
         turns = turn-turns c (turned c s e) s (t .turnable) (k .configuration);
+        counts = refl;
         differs = turn-differs c (turned c s e) s (t .turnable) k;
         few = t .small;
         keeps = keeps-turn c (turned c s e) s (t .turnable .free) k;

@@ -2,18 +2,20 @@
 use Prim.Native.Nat.{ℕ, _<_}
 use mathlib.Core.Path.{_≡_, refl, sym, _∙_}
 use mathlib.Core.Logic.{inl, inr}
-use mathlib.Core.Bool.{Bool, true, true≢false}
+use mathlib.Core.Bool.{Bool, true, not, true≢false}
 use mathlib.Core.List.{List}
 use mathlib.Core.List.{List·Memᴰ as In, List·Memᴰ·not-nil as nowhere}
 use native.Mathlib.Omega.{arith}
-use lib.ListN.{length-map}
-use borrow.Author.Tests.{not-true}
+use lib.ListN.{getD, length-map}
+use lib.Dec.{eqb}
+use borrow.Author.Tests.{not-true, eqb-false, ne-eqb}
 use Rattle.folds.proofs.Tests.{which, and-left, and-right, and-both}
 use Rattle.circuit.specs.Tools.{upTo}
 use Rattle.circuit.specs.Gate.{isInput, relevant}
 use Rattle.circuit.specs.Circuit.{Circuit, coded, gatesIn, WellFormed, on, justified}
+use Rattle.circuit.specs.Evaluate.{differ}
 use Rattle.circuit.specs.Survey.{reasons, cone, inFront, front, interest, survey, frontSize, interestSize}
-use Rattle.circuit.specs.Source001.{first, then, Descendant, child, further, Brings, Cone, Front, Interesting, Lists, Surveyed, SurveyIs001}
+use Rattle.circuit.specs.Source001.{first, then, Descendant, child, further, Brings, Cone, Front, Interesting, Lists, DifferIs, Surveyed, SurveyIs001}
 use Rattle.circuit.proofs.Lists.{select-in, in-select, select-sub, sub-rising, in-upTo, upTo-in, length-upTo, rising-upTo, map-at}
 use Rattle.circuit.proofs.Gate.{no-part}
 use Rattle.circuit.proofs.Spread.{spread-start, spread-closed, spread-least}
@@ -30,6 +32,19 @@ lists-set c p P to from = record {
     λ h. (let (l, q) = from x h in in-select p x (upTo (c .gates)) (upTo-in x (c .gates) l) q),
   );
 }
+
+pub differ-is : DifferIs
+unfolding differ
+differ-is c s a = record {
+  elements = gatesIn c apart;
+  lists = lists-set c apart _
+      (λ x h q. (h, eqb-false (getD s x 0) (getD a x 0) (not-true _ q)))
+      (λ x d. (d .0, rw (ne-eqb (getD s x 0) (getD a x 0) (d .1))));
+  many = refl;
+}
+  where
+    apart : ℕ → Bool
+    apart g = not (eqb (getD s g 0) (getD a g 0))
 
 module _ (c : Circuit) (ok : WellFormed c) (s : List ℕ) where
   -- ---- the cone

@@ -91,6 +91,15 @@ three = record {
   code = λ g. cond (eqb g 3) (some true) none;
 }
 
+-- 0, 1 inputs; 2 AND(0,1); 3 input; 4 OR(0,2,3); code 4 = 1: of three options the first and the last are the best
+unfoldable pub tie : Circuit
+tie = record {
+  gates = 5;
+  kind = λ g. getD (Input ∷ Input ∷ And ∷ Input ∷ Or ∷ []) g Input;
+  kids = λ g. getD ([] ∷ [] ∷ pair 0 1 ∷ [] ∷ (0 ∷ 2 ∷ 3 ∷ []) ∷ []) g [];
+  code = λ g. cond (eqb g 4) (some true) none;
+}
+
 -- 0, 1, 2 inputs; 3 NOT(0); 4 NOT(1); 5 NOT(2); codes 3 = 1, 4 = 1, 5 = 1: from all at 1 a front of three
 unfoldable pub nots : Circuit
 nots = record {
@@ -114,10 +123,17 @@ drawing d = record { draw = d; choice = Down 0 }
 
 -- the theorems speak of these circuits and starts
 pub record Fitting : Type 0 where
-  pub circuits : WellFormed adder × WellFormed clash × WellFormed uncoded × WellFormed corner × WellFormed nand × WellFormed gap × WellFormed three × WellFormed nots
+  pub circuits :
+      WellFormed adder × WellFormed clash × WellFormed uncoded × WellFormed corner × WellFormed nand × WellFormed gap × WellFormed three
+      × WellFormed tie × WellFormed nots
   pub on-adder : KeepsCodes adder A × KeepsCodes adder B × KeepsCodes adder C
-  pub on-clash : KeepsCodes clash (0 ∷ 0 ∷ 1 ∷ [])
+  pub on-clash : KeepsCodes clash (0 ∷ 0 ∷ 1 ∷ []) × KeepsCodes clash (1 ∷ 0 ∷ 1 ∷ [])
+  pub on-uncoded : KeepsCodes uncoded (one 1)
   pub on-corner : KeepsCodes corner (0 ∷ 0 ∷ 1 ∷ 1 ∷ 1 ∷ [])
+  pub on-nand : KeepsCodes nand (0 ∷ 1 ∷ 0 ∷ 1 ∷ []) × KeepsCodes nand (1 ∷ 1 ∷ 0 ∷ 1 ∷ [])
+  pub on-gap : KeepsCodes gap (0 ∷ 1 ∷ 0 ∷ 0 ∷ [])
+  pub on-three : KeepsCodes three (0 ∷ 0 ∷ 0 ∷ 1 ∷ [])
+  pub on-tie : KeepsCodes tie (0 ∷ 0 ∷ 0 ∷ 0 ∷ 1 ∷ [])
   pub on-nots : KeepsCodes nots ones
 
 pub record Examples : Type 0 where
@@ -146,7 +162,7 @@ pub record Examples : Type 0 where
   pub and-at-zero-options : downOptions nand (1 ∷ 1 ∷ 0 ∷ 1 ∷ []) 2 ≡ one 0 ∷ one 1 ∷ []
   pub or-at-one-options : downOptions three (0 ∷ 0 ∷ 0 ∷ 1 ∷ []) 3 ≡ one 0 ∷ one 1 ∷ one 2 ∷ []
   pub not-options : downOptions nots ones 4 ≡ one 1 ∷ []
-  pub xor-options : downOptions adder A 3 ≡ one 0 ∷ one 1 ∷ []
+  pub xor-options : (downOptions adder A 3 ≡ one 0 ∷ one 1 ∷ []) × (downOptions adder A 6 ≡ one 2 ∷ one 3 ∷ [])
   -- The draw is modulo the front's size, here 3, and the option modulo the number of options (P4: option 3 as option 1 of two).
   pub drawn-gate : (move nots ones (drawing 4) .gate ≡ 4) × (move nots ones (drawing 65535) .gate ≡ 3)
   pub drawn-turns : (turned nots ones (drawing 3) ≡ one 0) × (turned nots ones (drawing 4) ≡ one 1) × (turned nots ones (drawing 5) ≡ one 2)
@@ -160,14 +176,19 @@ pub record Examples : Type 0 where
   -- P6: greedy turns gate 4, with 3 interesting gates then; gate 5 would give 5. There is no tie: option 1 is option 0.
   pub greedy-interest : (interestSize adder (turn (one 4) C) ≡ 3) × (interestSize adder (turn (one 5) C) ≡ 5)
   pub greedy-turns : (turned adder C (entry (Greedy 0)) ≡ one 4) × (turned adder C (entry (Greedy 1)) ≡ one 4)
-  -- Where options tie, greedy's option is modulo the number of ties, here 2 and 3.
+  -- Where options tie, greedy's option is modulo the number of ties: of two options, of three, and two of three (interest 0, 3, 0).
   pub greedy-ties : (turned adder A (entry (Greedy 1)) ≡ one 1) × (turned adder A (entry (Greedy 2)) ≡ one 0)
   pub greedy-wraps : turned three (0 ∷ 0 ∷ 0 ∷ 1 ∷ []) (entry (Greedy 5)) ≡ one 2
+  pub greedy-some-tie :
+      (turned tie (0 ∷ 0 ∷ 0 ∷ 0 ∷ 1 ∷ []) (entry (Greedy 1)) ≡ one 3) × (turned tie (0 ∷ 0 ∷ 0 ∷ 0 ∷ 1 ∷ []) (entry (Greedy 2)) ≡ one 0)
   -- The front is tested before the first move, also where there is no entry (P8, P10), and after the last (P3).
   pub found-without-entry : run adder B [] ≡ stop Found B
   pub found-without-code : run uncoded (one 1) [] ≡ stop Found (one 1)
   pub found-at-once : run adder B (entry (Down 0) ∷ []) ≡ stop Found B
   pub found-at-last : run adder A (entry (Down 0) ∷ []) .outcome ≡ record { ending = Found; moves = 1; flips = 1 }
+  -- P4: as option 1.
+  pub as-option-one : run adder A (entry (Down 3) ∷ []) ≡ run adder A (entry (Down 1) ∷ [])
+  pub found-with-option : run adder A (entry (Down 3) ∷ []) .outcome ≡ record { ending = Found; moves = 1; flips = 1 }
   pub spent : run adder A (entry (Up 0) ∷ []) .outcome ≡ record { ending = Spent 1; moves = 1; flips = 1 }
   -- P9: each entry works on what the one before left; flips counts the values turned, 2 and then 1.
   pub first-move : run clash (0 ∷ 0 ∷ 1 ∷ []) (entry (Down 0) ∷ []) .last ≡ 1 ∷ 1 ∷ 1 ∷ []
@@ -185,4 +206,4 @@ pub record Examples : Type 0 where
   pub rows :
       (rowOf adder (answer adder (run adder A (entry (Down 0) ∷ []) .last)) ≡ 1 ∷ 0 ∷ 1 ∷ [])
       × (rowOf adder (answer adder (run adder A (entry (Down 3) ∷ []) .last)) ≡ 0 ∷ 1 ∷ 1 ∷ [])
-      × (rowOf corner (answer corner (0 ∷ 1 ∷ 1 ∷ 0 ∷ 1 ∷ [])) ≡ 0 ∷ 1 ∷ [])
+      × (rowOf corner (answer corner (run corner (0 ∷ 0 ∷ 1 ∷ 1 ∷ 1 ∷ []) (entry (Up 0) ∷ entry (Down 0) ∷ []) .last)) ≡ 0 ∷ 1 ∷ [])

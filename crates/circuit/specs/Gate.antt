@@ -42,7 +42,7 @@ oddOn [] = false
 oddOn (v ∷ vs) = not (same v (oddOn vs))
 
 -- "NOT, AND, OR and XOR mean what 001 says": the value that the children's values give. NOT has one child and gives its opposite, XOR has two and
--- says whether they are odd in number: both go by parity, and share their laws. An input has no children, and its clause is used nowhere.
+-- says whether an odd number of them is 1: both go by parity, and share their laws. An input has no children, and its clause is used nowhere.
 -- That this is what 001 says is `Functions` of Source001.antt.
 abbrev pub gives : Kind → List Bool → Bool
 gives Input vs = false

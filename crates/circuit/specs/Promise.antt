@@ -3,48 +3,46 @@
 use Prim.Native.Nat.{ℕ, zero, suc, _+_, _≤_, _<_, _%_}
 use mathlib.Core.Path.{_≡_}
 use mathlib.Core.Logic.{_⊎_, _↔_}
-use mathlib.Core.Bool.{true, false}
+use mathlib.Core.Bool.{Bool, true, false}
 use mathlib.Core.List.{List, [], _∷_, map, List·Memᴰ as In}
 use lib.ListN.{length, getD}
 use Rattle.circuit.specs.declared.Choice.{Choice}
 use Rattle.circuit.specs.declared.Choice.the-variants.{Greedy, Down, Up}
 use Rattle.circuit.specs.declared.Ending.the-variants.{Found, Spent}
-use Rattle.circuit.specs.Gate.{isInput, gives}
+use Rattle.circuit.specs.Tools.{select}
+use Rattle.circuit.specs.Gate.{isInput}
 use Rattle.circuit.specs.Circuit.{Circuit, coded, WellFormed, Configuration, on}
 use Rattle.circuit.specs.Evaluate.{Obeys, Satisfying, Satisfiable, KeepsCodes, differ}
 use Rattle.circuit.specs.Survey.{front, frontSize, interestSize}
 use Rattle.circuit.specs.Run.{Entry, downOptions, turn, greedyOptions, turned, move, Ended, run, answer}
-use Rattle.circuit.specs.Source001.{MoveOf, Cone, Front, Turned, Size, SurveyIs001}
+use Rattle.circuit.specs.Source001.{OptionOf, Cone, Front, Turned, Size, DownOptionsAre001, SurveyIs001}
 
 abbrev pub NoFront : Circuit → List ℕ → Type 0
 NoFront c s = (g : ℕ) → ¬ Front c s g
 
 -- ---- one move
 
--- the gates o are a down option of gate g in 001's words: the move of a subset minimal justification for its value
-abbrev pub OptionOf : Circuit → List ℕ → ℕ → List ℕ → Type 0
-OptionOf c s g o = MoveOf (gives (c .kind g)) (c .kids g) (on s g) (on s) o
-
 -- o stands in a list of options at place i modulo their number
 abbrev pub StandsAt : List (List ℕ) → ℕ → List ℕ → Type 0
 StandsAt os i o = o ≡ getD os (i % length os) []
 
--- greedy picks from all the options with the smallest interest set after the move, and from no other
+-- Greedy picks from the options with the smallest interest set after the move, in their order: whichever test tells these.
 abbrev pub GreedyOptionsAre : Type 0
 GreedyOptionsAre =
-    (c : Circuit) (s : List ℕ) (os : List (List ℕ)) (o : List ℕ)
-    → In o (greedyOptions c s os) ↔ (In o os × ((p : List ℕ) → In p os → interestSize c (turn o s) ≤ interestSize c (turn p s)))
+    (c : Circuit) (s : List ℕ) (os : List (List ℕ)) (best : List ℕ → Bool)
+    → ((o : List ℕ) → In o os → (best o ≡ true) ↔ ((p : List ℕ) → In p os → interestSize c (turn o s) ≤ interestSize c (turn p s)))
+    → greedyOptions c s os ≡ select best os
 
 -- the gates o that down with option i turns where gate g is drawn
 pub record DownTurns (c : Circuit) (s : List ℕ) (g i : ℕ) (o : List ℕ) : Type 0 where
   pub option : OptionOf c s g o
-  pub place : StandsAt (downOptions c s g) i o
+  pub option-place : StandsAt (downOptions c s g) i o
 
 -- the gates o that greedy with option i turns
 pub record GreedyTurns (c : Circuit) (s : List ℕ) (g i : ℕ) (o : List ℕ) : Type 0 where
   pub option : OptionOf c s g o
   pub smallest : (p : List ℕ) → OptionOf c s g p → interestSize c (turn o s) ≤ interestSize c (turn p s)
-  pub place : StandsAt (greedyOptions c s (downOptions c s g)) i o
+  pub option-place : StandsAt (greedyOptions c s (downOptions c s g)) i o
 
 -- the gates o that a choice turns where gate g is drawn
 abbrev pub Turns : Circuit → List ℕ → ℕ → Choice → List ℕ → Type 0
@@ -53,16 +51,17 @@ Turns c s g (Down i) o = DownTurns c s g i o
 Turns c s g (Up i) o = ((coded c g ≡ true) × DownTurns c s g i o) ⊎ ((coded c g ≡ false) × (o ≡ g ∷ []))
 
 -- What an entry does.
---     place, in-front    it draws a gate of the front by its place
---     choice             and turns the gates that its choice says:
---     turns, next        these have the other value, all other bytes stand,
---     differs, few       and 1 to 8 bytes differ, as many as `flips` says
---     keeps              the codes are kept
+--     draw-place, in-front    it draws a gate of the front by its place
+--     as-chosen               and turns the gates that its choice says:
+--     turns                   these have the other value, all other bytes stand,
+--     counts, differs, few    `flips` is how many they are, which is how many bytes differ, 1 to 8
+--     keeps                   the codes are kept
 pub record EntryDone (c : Circuit) (s : List ℕ) (e : Entry) : Type 0 where
-  pub place : move c s e .gate ≡ getD (front c s) (e .draw % frontSize c s) 0
+  pub draw-place : move c s e .gate ≡ getD (front c s) (e .draw % frontSize c s) 0
   pub in-front : Front c s (move c s e .gate)
-  pub choice : Turns c s (move c s e .gate) (e .choice) (turned c s e)
+  pub as-chosen : Turns c s (move c s e .gate) (e .choice) (turned c s e)
   pub turns : Turned (turned c s e) s (move c s e .next)
+  pub counts : move c s e .flips ≡ length (turned c s e)
   pub differs : differ c s (move c s e .next) ≡ move c s e .flips
   pub few : (1 ≤ move c s e .flips) × (move c s e .flips ≤ 8)
   pub keeps : KeepsCodes c (move c s e .next)
@@ -93,9 +92,9 @@ config c s [] (suc i) = s
 config c s (e ∷ es) (suc i) = config c (move c s e .next) es i
 
 -- at how many gates t 0 and t 1, t 1 and t 2, .., t (n - 1) and t n differ, summed
-abbrev pub changes : Circuit → (ℕ → List ℕ) → ℕ → ℕ
-changes c t zero = 0
-changes c t (suc n) = differ c (t 0) (t 1) + changes c (λ i. t (suc i)) n
+abbrev pub differences : Circuit → (ℕ → List ℕ) → ℕ → ℕ
+differences c t zero = 0
+differences c t (suc n) = differ c (t 0) (t 1) + differences c (λ i. t (suc i)) n
 
 -- "A run makes the moves of document 01, reports as moves and flips the count of entries done and the sum of values they turned, and ends Found
 -- exactly when its front becomes empty within the tape; the state it then gives obeys every gate and shows every code." Here r is what a run from s on
@@ -116,14 +115,18 @@ pub record Promised (c : Circuit) (s : List ℕ) (es : List Entry) (t : ℕ → 
   pub at-spent : ¬ (r .outcome .ending ≡ Found)
       → (r .outcome .moves ≡ length es) × ((n : ℕ) × (r .outcome .ending ≡ Spent n) × Size (Front c (t (r .outcome .moves))) n)
   pub earlier : (i : ℕ) → i < r .outcome .moves → ¬ NoFront c (t i)
-  pub flips : r .outcome .flips ≡ changes c t (r .outcome .moves)
+  pub flips : r .outcome .flips ≡ differences c t (r .outcome .moves)
   pub last : r .last ≡ t (r .outcome .moves)
   pub keeps : KeepsCodes c (r .last)
   pub shows : r .outcome .ending ≡ Found → Satisfying c (answer c (r .last))
 
--- "Cone, front and interest set are those of source document 001, save two differences", and what runs promise
+-- Demand 2 as a whole: "Cone, front and interest set are those of source document 001, save two differences", what the options and the answer are, and
+-- what runs promise.
 pub record Demand2OnCircuits : Type 0 where
   pub surveys : SurveyIs001
+  pub options : DownOptionsAre001
+  pub greedy : GreedyOptionsAre
+  pub answers : AnswerIs
   pub runs : (c : Circuit) → WellFormed c → (s : List ℕ) → KeepsCodes c s → (es : List Entry) → Promised c s es (config c s es) (run c s es)
 
 -- ---- demand 3
@@ -144,17 +147,18 @@ Writable e = (e .draw < 65536) × (optionByte (e .choice) < 256)
 
 -- "kind and option bytes exist, no kind among them greedy, with which document 01's run on exactly those draws ends Found and reports at most
 -- that number of moves and at most that number of flips": from s, on the draws ds, for the number n. "The run on such a list .. is Run on the tape whose
--- entries are these draws in that order, each with its two bytes, and no other entry".
+-- entries are these draws in that order, each with its two bytes, and no other entry". The draws may be any numbers, not u16 alone.
 pub record FinishingTape (c : Circuit) (s : List ℕ) (ds : List ℕ) (n : ℕ) : Type 0 where
   pub tape : List Entry
   pub draws : map (λ (e : Entry). e .draw) tape ≡ ds
   pub plain : (e : Entry) → In e tape → NotGreedy (e .choice) × (optionByte (e .choice) < 256)
-  pub found : run c s tape .outcome .ending ≡ Found
+  pub ends-found : run c s tape .outcome .ending ≡ Found
   pub moves : run c s tape .outcome .moves ≤ n
   pub flips : run c s tape .outcome .flips ≤ n
 
 -- From a start s.
---     only, some-tape    "some tape ends Found exactly when some state satisfies the map", a tape that bytes can hold and no longer than the map
+--     only, some-tape    "some tape ends Found exactly when some state satisfies the map", a tape that bytes can hold, with
+--                        at most as many entries as the map has gates
 --     bounded            "For every such start and every satisfying assignment of all gates, count the gates where the two differ. For every list of
 --                        front draws of that length .."
 pub record Demand3From (c : Circuit) (s : List ℕ) : Type 0 where

@@ -85,7 +85,8 @@ after k r = record {
 }
 
 -- "Run repeats: survey; if the front is empty, end Found; if the tape is used up, end Spent; else do the next entry." "Spent also carries the
--- front's size." (Refused is not an ending of a run on a circuit: calls that are declined run nothing.)
+-- front's size." (Refused is not an ending of a run on a circuit: calls that are declined run nothing.
+-- `elim` stands where `cond` would have antt compute a move that is not made.)
 unfoldable pub run : Circuit → List ℕ → List Entry → Ended
 run c s [] = cond (isEmpty (front c s)) (stop Found s) (stop (Spent (frontSize c s)) s)
 run c s (e ∷ es) = elim (isEmpty (front c s)) [

@@ -12,6 +12,7 @@ use lib.ListN.{length, getD}
 use Rattle.circuit.specs.Tools.{byte, same, member, Rising, Distinct, select}
 use Rattle.circuit.specs.Gate.{Kind, Not, And, Or, Xor, isInput, fanInFits, gives, relevant, options}
 use Rattle.circuit.specs.Circuit.{Circuit, coded, WellFormed, Configuration, on, justified}
+use Rattle.circuit.specs.Evaluate.{differ}
 use Rattle.circuit.specs.Survey.{cone, inFront, front, interest, survey, frontSize, interestSize}
 use Rattle.circuit.specs.Run.{downOptions, turn}
 
@@ -47,7 +48,7 @@ pub record Justification (f : List Bool → Bool) (xs : List ℕ) (v : Bool) (σ
 -- a subset minimal one
 pub record Minimal (f : List Bool → Bool) (xs : List ℕ) (v : Bool) (σ : Partial) : Type 0 where
   pub justifies : Justification f xs v σ
-  pub least : (ρ : Partial) → Justification f xs v ρ → Subset ρ σ → Subset σ ρ
+  pub no-smaller : (ρ : Partial) → Justification f xs v ρ → Subset ρ σ → Subset σ ρ
 
 -- Child x is in some subset minimal justification. Difference 1: "001's written condition doesn't say that the justification must agree with the
 -- configuration; its worked example does, and the example decides."
@@ -73,6 +74,10 @@ pub record MoveOf (f : List Bool → Bool) (xs : List ℕ) (v : Bool) (at : ℕ 
   pub minimal : Minimal f xs v by
   pub is : o ≡ changed by at xs
 
+-- the gates o are a down option of gate g in 001's words: the move of a subset minimal justification for its value
+abbrev pub OptionOf : Circuit → List ℕ → ℕ → List ℕ → Type 0
+OptionOf c s g o = MoveOf (gives (c .kind g)) (c .kids g) (on s g) (on s) o
+
 -- ---- cone, front, interest set
 
 -- The smallest set that has what `First` has, and with each gate g each x for which `Next g x`.
@@ -92,8 +97,7 @@ module _ (c : Circuit) where
 
   module _ (s : List ℕ) where
     -- "A gate g is justified in an assignment τ if it is assigned .. and (i) it is an input gate, or (ii) g := f(..) ∈ C and τ|{..} is a
-    -- justification for <g, τ(g)>." (A configuration assigns every gate.) Difference 2, first half: 001 takes a NOT gate and its child as always
-    -- opposite; here a configuration may break a NOT gate, and it is then unjustified like any other.
+    -- justification for <g, τ(g)>." A configuration assigns every gate. This is so for NOT gates too.
     abbrev pub Justified : ℕ → Type 0
     Justified g =
         (isInput (c .kind g) ≡ true)
@@ -114,8 +118,8 @@ module _ (c : Circuit) where
     abbrev pub Front : ℕ → Type 0
     Front g = Cone g × ¬ Justified g
 
-    -- "it belongs to the frontier .. or is a descendant of a gate in it". Difference 2, second half: "NOT gates
-    -- count like others (001 leaves them out)".
+    -- "it belongs to the frontier .. or is a descendant of a gate in it". Difference 2: "NOT gates count like
+    -- others (001 leaves them out)".
     abbrev pub Interesting : ℕ → Type 0
     Interesting x = Front x ⊎ ((g : ℕ) × Front g × Descendant c g x)
 
@@ -143,7 +147,7 @@ abbrev pub JustifiedIs001 : Type 0
 JustifiedIs001 = (c : Circuit) (s : List ℕ) (g : ℕ) → (justified c s g ≡ true) ↔ Justified c s g
 
 -- A gate that is no input, by its kind, its children xs and their values: the fan-in is allowed, the children ascend, and `was` is the value that
--- they give. `WellFormed` has this for every gate.
+-- they give. `WellFormed` has `fits` and `rising` for every gate.
 pub record Seen (k : Kind) (at : ℕ → Bool) (xs : List ℕ) (was : Bool) : Type 0 where
   pub gate : isInput k ≡ false
   pub fits : fanInFits k (length xs) ≡ true
@@ -168,7 +172,7 @@ OptionsAre001 =
 abbrev pub DownOptionsAre001 : Type 0
 DownOptionsAre001 =
     (c : Circuit) → WellFormed c → (s : List ℕ) (g : ℕ) → g < c .gates → justified c s g ≡ false
-    → ((o : List ℕ) → In o (downOptions c s g) ↔ MoveOf (gives (c .kind g)) (c .kids g) (on s g) (on s) o) × Distinct (downOptions c s g)
+    → ((o : List ℕ) → In o (downOptions c s g) ↔ OptionOf c s g o) × Distinct (downOptions c s g)
 
 -- from s to t the gates o have turned, and no other byte is another
 pub record Turned (o s t : List ℕ) : Type 0 where
@@ -196,6 +200,10 @@ pub record Size (P : ℕ → Type 0) (n : ℕ) : Type 0 where
   pub elements : List ℕ
   pub lists : Lists P elements
   pub many : n ≡ length elements
+
+-- `differ` is the number of gates whose bytes are unequal.
+abbrev pub DifferIs : Type 0
+DifferIs = (c : Circuit) (s a : List ℕ) → Size (λ g. (g < c .gates) × ¬ (getD s g 0 ≡ getD a g 0)) (differ c s a)
 
 -- Cone, front and interest set as sets, Survey's bytes and sizes, and the list from which a move draws
 pub record Surveyed (c : Circuit) (s : List ℕ) : Type 0 where
