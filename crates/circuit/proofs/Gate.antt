@@ -63,7 +63,7 @@ module _ (k : Kind) (v : Bool) (narrow : Narrow k) (one : One (gives k) v)
         ],
         λ t. rw (option at xs) (here (t .2 ∙ apart-wrong (t .0) at xs (all-other (gives k) v one (t .0) xs (t .1)))),
       ))
-      (λ at xs. inr (option at xs))
+      (λ at xs. inl (option at xs))
 
 -- ---- NOT and XOR: the value is the parity of the children's, turned or not
 
@@ -132,7 +132,7 @@ module _ (k : Kind) (v turned : Bool) (narrow : Narrow k)
         λ t. rw (option at xs, t .2) (let (x, q) = one-apart (t .0) at xs (small (length xs) (e .fits)) (e .gave) (t .1) in
             rw q (singles-in x xs (select-in (λ y. not (same (t .0 y) (at y))) x xs (rw q (here refl)) .0))),
       ))
-      (λ at xs. inl (option at xs))
+      (λ at xs. inr (option at xs))
 
 -- ---- the kinds
 

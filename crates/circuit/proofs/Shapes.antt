@@ -25,7 +25,8 @@ use Rattle.circuit.proofs.Justification.{has-or-not, fill, fill-extends
 -- and that the tables are 001's:
 --     part      the relevant children are those of the subset minimal justifications that agree
 --     move      the options are the moves of the subset minimal justifications,
---     once      each once
+--     once      each once,
+--     order     and one that turns every wrong child, or one per child
 pub record Laws (k : Kind) (v : Bool) : Type 0 where
   pub force : (at τ : ℕ → Bool) (xs : List ℕ) → Seen k at xs v → ((x : ℕ) → In x xs → relevant k v (at x) ≡ true → τ x ≡ at x) → gives k (map τ xs) ≡ v
   pub toward : (at τ : ℕ → Bool) (xs : List ℕ) → Seen k at xs (not v) → gives k (map τ xs) ≡ v
@@ -35,6 +36,7 @@ pub record Laws (k : Kind) (v : Bool) : Type 0 where
   pub part : (at : ℕ → Bool) (xs : List ℕ) → Seen k at xs v → (x : ℕ) → (In x xs × (relevant k v (at x) ≡ true)) ↔ TakesPart (gives k) xs v at x
   pub move : (at : ℕ → Bool) (xs : List ℕ) → Seen k at xs (not v) → (o : List ℕ) → In o (options k v at xs) ↔ MoveOf (gives k) xs v at o
   pub once : (at : ℕ → Bool) (xs : List ℕ) → Seen k at xs (not v) → Distinct (options k v at xs)
+  pub order : (at : ℕ → Bool) (xs : List ℕ) → Seen k at xs (not v) → (options k v at xs ≡ wrong v at xs ∷ []) ⊎ (options k v at xs ≡ singles xs)
 
 -- the fan-ins that a kind allows are 1 to 8
 abbrev pub Narrow : Kind → Type 0
@@ -90,6 +92,7 @@ module _ (k : Kind) (v : Bool) (narrow : Narrow k) (h : One (gives k) v)
     );
     move = one-move;
     once = λ at xs e. rw (option at xs) (singles-distinct xs (e .rising));
+    order = λ at xs e. inr (option at xs);
   }
 
 -- ---- every child counts: all are relevant, and the options are the ways to the value
@@ -101,7 +104,7 @@ Way k v at xs o = (τ : ℕ → Bool) × (gives k (map τ xs) ≡ v) × (o ≡ a
 module _ (k : Kind) (v : Bool) (narrow : Narrow k) (h : Each (gives k) v)
     (counts : (b : Bool) → relevant k v b ≡ true)
     (ways : (at : ℕ → Bool) (xs : List ℕ) → Seen k at xs (not v) → (o : List ℕ) → In o (options k v at xs) ↔ Way k v at xs o)
-    (form : (at : ℕ → Bool) (xs : List ℕ) → (options k v at xs ≡ singles xs) ⊎ (options k v at xs ≡ wrong v at xs ∷ [])) where
+    (form : (at : ℕ → Bool) (xs : List ℕ) → (options k v at xs ≡ wrong v at xs ∷ []) ⊎ (options k v at xs ≡ singles xs)) where
   each-move : (at : ℕ → Bool) (xs : List ℕ) → Seen k at xs (not v) → (o : List ℕ) → In o (options k v at xs) ↔ MoveOf (gives k) xs v at o
   each-move at xs e o = (
     λ m. (let (τ, d, q) = ways at xs e o .0 m in record {
@@ -126,8 +129,8 @@ module _ (k : Kind) (v : Bool) (narrow : Narrow k) (h : Each (gives k) v)
     );
     sound = λ at xs e o m. move-sound (gives k) v xs at (e .gave) o (each-move at xs e o .0 m);
     few = λ at xs e. elim (form at xs) [
-      | inl q ↦ rw q (omega (arith, singles-length xs, narrow (length xs) (e .fits)))
-      | inr q ↦ rw q (omega arith)
+      | inr q ↦ rw q (omega (arith, singles-length xs, narrow (length xs) (e .fits)))
+      | inl q ↦ rw q (omega arith)
     ];
     part = λ at xs e x. (
       λ p. record {
@@ -140,5 +143,6 @@ module _ (k : Kind) (v : Bool) (narrow : Narrow k) (h : Each (gives k) v)
       λ t. (t .minimal .justifies .children x (t .value) (t .has), counts (at x)),
     );
     move = each-move;
-    once = λ at xs e. elim (form at xs) [ inl q ↦ rw q (singles-distinct xs (e .rising)) | inr q ↦ rw q (nowhere, tt) ];
+    once = λ at xs e. elim (form at xs) [ inl q ↦ rw q (nowhere, tt) | inr q ↦ rw q (singles-distinct xs (e .rising)) ];
+    order = λ at xs e. form at xs;
   }

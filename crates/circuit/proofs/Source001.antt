@@ -13,7 +13,7 @@ use Rattle.circuit.specs.Tools.{same}
 use Rattle.circuit.specs.Gate.{isInput, gives}
 use Rattle.circuit.specs.Circuit.{Circuit, WellFormed, Configuration, on, justified, GateZeroIsInput}
 use Rattle.circuit.specs.Run.{downOptions, turn}
-use Rattle.circuit.specs.Source001.{Extends, contrary, MoveOf, Smallest, first, then, IsClosed, SmallestIs, Turned, JustifiedIs001, RelevantIs001, OptionsAre001, DownOptionsAre001, Justifies, OptionsJustify}
+use Rattle.circuit.specs.Source001.{Extends, contrary, MoveOf, Smallest, first, then, IsClosed, SmallestIs, Turned, JustifiedIs001, RelevantIs001, OptionsAre001, OptionsInOrder, DownOptionsAre001, Justifies, OptionsJustify}
 use Rattle.circuit.proofs.Values.{opposite, same-true, same-false}
 use Rattle.circuit.proofs.Lists.{at-place, select-in, in-select}
 use Rattle.circuit.proofs.Justification.{restrict-has, restrict-justifies}
@@ -34,6 +34,9 @@ relevant-is k v at xs e x = laws k v (e .gate) .part at xs e x
 
 pub options-are : OptionsAre001
 options-are k v at xs e = (laws k v (e .gate) .move at xs e, laws k v (e .gate) .once at xs e)
+
+pub options-in-order : OptionsInOrder
+options-in-order k v at xs e = laws k v (e .gate) .order at xs e
 
 pub justified-is : JustifiedIs001
 justified-is c s g = (

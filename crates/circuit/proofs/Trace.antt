@@ -15,7 +15,7 @@ use Rattle.circuit.specs.Survey.{front, frontSize}
 use Rattle.circuit.specs.Run.{Entry, move, Ended, stop, after, run}
 use Rattle.circuit.specs.Promise.{NoFront, EntryDone, config, Promised, Demand2OnCircuits}
 use Rattle.circuit.proofs.Found.{answer-is, answer-satisfies}
-use Rattle.circuit.proofs.Source001.{down-options-are}
+use Rattle.circuit.proofs.Source001.{options-in-order, down-options-are}
 use Rattle.circuit.proofs.Survey.{survey-is}
 use Rattle.circuit.proofs.Moves.{greedy-options-are, no-front, some-front, entry-done}
 
@@ -125,4 +125,4 @@ promised c ok s k [] = no-entry c ok s k
 promised c ok s k (e ∷ es) = an-entry c ok s k e es (λ q. promised c ok (move c s e .next) (entry-done c ok s k q e .keeps) es)
 
 pub demand2-on-circuits : Demand2OnCircuits
-demand2-on-circuits = record { surveys = survey-is; options = down-options-are; greedy = greedy-options-are; answers = answer-is; runs = promised }
+demand2-on-circuits = record { surveys = survey-is; options = down-options-are; order = options-in-order; greedy = greedy-options-are; answers = answer-is; runs = promised }

@@ -15,7 +15,7 @@ use Rattle.circuit.specs.Circuit.{Circuit, coded, WellFormed, Configurat
 use Rattle.circuit.specs.Evaluate.{Obeys, Satisfying, Satisfiable, KeepsCodes, differ}
 use Rattle.circuit.specs.Survey.{front, frontSize, interestSize}
 use Rattle.circuit.specs.Run.{Entry, downOptions, turn, greedyOptions, turned, move, Ended, run, answer}
-use Rattle.circuit.specs.Source001.{OptionOf, Cone, Front, Turned, Size, DownOptionsAre001, SurveyIs001}
+use Rattle.circuit.specs.Source001.{OptionOf, Cone, Front, Turned, Size, OptionsInOrder, DownOptionsAre001, SurveyIs001}
 
 abbrev pub NoFront : Circuit → List ℕ → Type 0
 NoFront c s = (g : ℕ) → ¬ Front c s g
@@ -125,6 +125,7 @@ pub record Promised (c : Circuit) (s : List ℕ) (es : List Entry) (t : ℕ → 
 pub record Demand2OnCircuits : Type 0 where
   pub surveys : SurveyIs001
   pub options : DownOptionsAre001
+  pub order : OptionsInOrder
   pub greedy : GreedyOptionsAre
   pub answers : AnswerIs
   pub runs : (c : Circuit) → WellFormed c → (s : List ℕ) → KeepsCodes c s → (es : List Entry) → Promised c s es (config c s es) (run c s es)

@@ -9,8 +9,8 @@ use mathlib.Core.Bool.{Bool, true, false, cond, not}
 use mathlib.Core.Option.{Option, none, some}
 use mathlib.Core.List.{List, [], _∷_, map, List·Memᴰ as In}
 use lib.ListN.{length, getD}
-use Rattle.circuit.specs.Tools.{byte, same, member, Rising, Distinct, select}
-use Rattle.circuit.specs.Gate.{Kind, Not, And, Or, Xor, isInput, fanInFits, gives, relevant, options}
+use Rattle.circuit.specs.Tools.{byte, same, member, Rising, Distinct, singles, select}
+use Rattle.circuit.specs.Gate.{Kind, Not, And, Or, Xor, isInput, fanInFits, gives, relevant, wrong, options}
 use Rattle.circuit.specs.Circuit.{Circuit, coded, WellFormed, Configuration, on, justified}
 use Rattle.circuit.specs.Evaluate.{differ}
 use Rattle.circuit.specs.Survey.{cone, inFront, front, interest, survey, frontSize, interestSize}
@@ -162,13 +162,19 @@ RelevantIs001 =
     → (x : ℕ) → (In x xs × (relevant k v (at x) ≡ true)) ↔ TakesPart (gives k) xs v at x
 
 -- The down options, at an unjustified gate, are exactly the moves of the subset minimal justifications, each once. ("Only these minimal
--- justifications are used." Their order is document 01's own, and `options` lists them so.)
+-- justifications are used.")
 abbrev pub OptionsAre001 : Type 0
 OptionsAre001 =
     (k : Kind) (v : Bool) (at : ℕ → Bool) (xs : List ℕ) → Seen k at xs (not v)
     → ((o : List ℕ) → In o (options k v at xs) ↔ MoveOf (gives k) xs v at o) × Distinct (options k v at xs)
 
--- the same on circuits, for the options that moves pick from
+-- Their order is document 01's own: "a single option that turns every wrong child", or "one per child in order".
+abbrev pub OptionsInOrder : Type 0
+OptionsInOrder =
+    (k : Kind) (v : Bool) (at : ℕ → Bool) (xs : List ℕ) → Seen k at xs (not v)
+    → (options k v at xs ≡ wrong v at xs ∷ []) ⊎ (options k v at xs ≡ singles xs)
+
+-- `OptionsAre001` on circuits, for the options that moves pick from
 abbrev pub DownOptionsAre001 : Type 0
 DownOptionsAre001 =
     (c : Circuit) → WellFormed c → (s : List ℕ) (g : ℕ) → g < c .gates → justified c s g ≡ false
