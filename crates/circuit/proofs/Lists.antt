@@ -209,7 +209,7 @@ pub length-upTo : (n : ℕ) → length (upTo n) ≡ n
 length-upTo zero = refl
 length-upTo (suc n) = simp length-append (omega (arith, length-upTo n))
 
-rising-end : (xs : List ℕ) (n : ℕ) → Rising xs → ((x : ℕ) → In x xs → x < n) → Rising (xs ++ (n ∷ []))
+pub rising-end : (xs : List ℕ) (n : ℕ) → Rising xs → ((x : ℕ) → In x xs → x < n) → Rising (xs ++ (n ∷ []))
 rising-end [] n r f = (λ y m. absurd (nowhere m), tt)
 rising-end (x ∷ xs) n r f = (
   λ y m. elim (append-cases xs m) [ inl i ↦ r .0 y i | inr i ↦ elim (cases i) [ inl e ↦ rw e (f x (here refl)) | inr z ↦ absurd (nowhere z) ] ],
@@ -220,7 +220,7 @@ pub rising-upTo : (n : ℕ) → Rising (upTo n)
 rising-upTo zero = tt
 rising-upTo (suc n) = rising-end (upTo n) n (rising-upTo n) (λ x m. in-upTo x n m)
 
-map-append : {A B : Type 0} (f : A → B) (xs ys : List A) → map f (xs ++ ys) ≡ map f xs ++ map f ys
+pub map-append : {A B : Type 0} (f : A → B) (xs ys : List A) → map f (xs ++ ys) ≡ map f xs ++ map f ys
 map-append f [] ys = refl
 map-append f (x ∷ xs) ys = ap (λ r. f x ∷ r) (map-append f xs ys)
 

@@ -1,6 +1,6 @@
 -- The kinds of gate. All that document 01 says of one kind and not of another stands here: a new kind is a new clause of each definition.
 -- A gate is seen by its kind, its own value and its children with their values. Assumes nothing.
-use Prim.Native.Nat.{ℕ}
+use Prim.Native.Nat.{ℕ, zero, suc}
 use mathlib.Core.Bool.{Bool, true, false, not}
 use mathlib.Core.List.{List, [], _∷_}
 use lib.Dec.{eqb, leb}
@@ -10,6 +10,17 @@ use Rattle.circuit.specs.Tools.{same, select, singles}
 -- "Kinds: 0 input, 1 NOT, 2 AND, 3 OR, 4 XOR."
 pub data Kind : Type 0 where
   Input Not And Or Xor : Kind
+
+-- the kind of a kind byte. Those above the last have none: test 4 excludes them, and the last clause stands for them.
+abbrev pub lastKind : ℕ
+lastKind = 4
+
+abbrev pub kindOf : ℕ → Kind
+kindOf zero = Input
+kindOf (suc zero) = Not
+kindOf (suc (suc zero)) = And
+kindOf (suc (suc (suc zero))) = Or
+kindOf (suc (suc (suc (suc k)))) = Xor
 
 abbrev pub isInput : Kind → Bool
 isInput Input = true

@@ -1,0 +1,61 @@
+use Prim.Native.Nat.{_-_, _≤_}
+use mathlib.Core.Path.{_≡_}
+use mathlib.Core.Bool.{Bool, true}
+use native.Mathlib.Omega.{arith}
+use Rattle.folds.specs.Folds.{allBelow}
+use Rattle.folds.proofs.Loops.{loops-of}
+use Rattle.map.specs.Check.{childrenTest}
+use borrow.Author.Needs.{needs}
+use Rattle.map.proofs.tests.all_children_ok.Statement.{statement}
+use Rattle.map.proofs.tests.all_children_ok.Tie as tie
+use Rattle.map.proofs.tests.all_children_ok.Reads as reads
+use Rattle.map.proofs.tests.all_children_ok.Lts as lts
+use Rattle.map.proofs.tests.children_ok.Reads as children-ok-reads
+
+abbrev Inv-loop : tie.InvT-loop
+Inv-loop map gates g₀ g = (g ≤ gates) × (allBelow g (childrenTest map) ≡ true)
+
+abbrev μ-loop : tie.MeasureT-loop
+μ-loop map gates g₀ g = gates - g
+
+-- src/tests.rt:121:5
+loop-holds : tie.Need-loop-holds Inv-loop μ-loop
+loop-holds c = search (needs, loops-of)
+
+-- src/tests.rt:122:13
+children-ok-requires : tie.Need-children-ok-requires Inv-loop μ-loop
+children-ok-requires c κs = search needs
+
+-- src/tests.rt:123:13
+returns : tie.Need-returns Inv-loop μ-loop
+returns c = search (needs, loops-of)
+
+-- src/tests.rt:125:9
+add-g : tie.Need-add-g Inv-loop μ-loop
+add-g c = search needs
+
+-- src/tests.rt:121:5
+loop-less : tie.Need-loop-less Inv-loop μ-loop
+loop-less c = search needs
+
+-- src/tests.rt:121:5
+loop-again : tie.Need-loop-again Inv-loop μ-loop
+loop-again c = search (needs, loops-of)
+
+-- src/tests.rt:116:1
+returns-2 : tie.Need-returns-2 Inv-loop μ-loop
+returns-2 c = search (needs, loops-of)
+
+pub all-children-ok-spec : {M : Type 1} → statement M
+all-children-ok-spec =
+    tie.close
+    (tie.spec
+    Inv-loop
+    μ-loop
+    loop-holds
+    children-ok-requires
+    returns
+    add-g
+    loop-less
+    loop-again
+    returns-2)

@@ -1,0 +1,140 @@
+-- Document 01, 'When a call is declined', tests 1 to 8, and Check. Assumes nothing.
+use Prim.Native.Nat.{ℕ, zero, suc, _+_, _*_, _-_, _<_, _≤_}
+use mathlib.Core.Path.{_≡_}
+use mathlib.Core.Bool.{Bool, true, false, cond, not}
+use mathlib.Core.List.{List, [], _∷_, _++_}
+use lib.ListN.{length, getD}
+use lib.Dec.{eqb, leb, ltb}
+use Rattle.folds.specs.Folds.{_and_, _or_, allBelow}
+use Rattle.circuit.specs.Gate.{lastKind, kindOf, fanInFits}
+use Rattle.circuit.specs.Tools.{byte}
+use Rattle.circuit.specs.Circuit.{isSome, coded, WellFormed}
+use Rattle.circuit.specs.Evaluate.{inputsBefore}
+use Rattle.map.specs.Map.{u16At, gateCount, childCount, codeCount, childrenAt, codesAt, lengthGiven, kindByte, fanIn, firstChild, fanInsBefore, childAt, codeGate, codeValue, codeZero, codeAmong, circuit}
+use Rattle.map.specs.declared.Counts.{Counts}
+use Rattle.map.specs.declared.Checked.{Checked}
+use Rattle.map.specs.declared.Checked.the-variants.{Refused, Accepted}
+
+-- ---- the tests: true where the map passes
+
+-- "3. An offset or the length isn't what the counts give."
+unfoldable pub offsetsTest : List ℕ → Bool
+offsetsTest m = eqb (u16At m 0) 12 and eqb (u16At m 4) (childrenAt m) and eqb (u16At m 8) (codesAt m) and eqb (length m) (lengthGiven m)
+
+-- "4. A kind is above 4 or a fan-in isn't allowed for its kind.": of a kind byte and a fan-in, and at gate g
+unfoldable pub kindFits : ℕ → ℕ → Bool
+kindFits k n = leb k lastKind and fanInFits (kindOf k) n
+
+unfoldable pub kindTest : List ℕ → ℕ → Bool
+kindTest m g = kindFits (kindByte m g) (fanIn m g)
+
+-- "5. A first child position or the child count is wrong.": at gate g, and as a whole
+unfoldable pub positionTest : List ℕ → ℕ → Bool
+positionTest m g = eqb (firstChild m g) (fanInsBefore m g)
+
+unfoldable pub positionsTest : List ℕ → Bool
+positionsTest m = allBelow (gateCount m) (positionTest m) and eqb (fanInsBefore m (gateCount m)) (childCount m)
+
+-- "6. A child isn't below its gate or doesn't ascend.": at child j of gate g, and at gate g
+unfoldable pub childTest : List ℕ → ℕ → ℕ → Bool
+childTest m g j = ltb (childAt m g j) g and (eqb j 0 or ltb (childAt m g (j - 1)) (childAt m g j))
+
+unfoldable pub childrenTest : List ℕ → ℕ → Bool
+childrenTest m g = allBelow (fanIn m g) (childTest m g)
+
+-- "7. A code's gate is past the last, doesn't ascend, or its value or zero byte is wrong.": at code r
+unfoldable pub codeTest : List ℕ → ℕ → Bool
+codeTest m r = ltb (codeGate m r) (gateCount m) and (eqb r 0 or ltb (codeGate m (r - 1)) (codeGate m r)) and leb (codeValue m r) 1 and eqb (codeZero m r) 0
+
+-- "8. A coded gate is some gate's child.": no child of gate g is coded
+unfoldable pub freeTest : List ℕ → ℕ → Bool
+freeTest m g = allBelow (fanIn m g) (λ j. not (coded (circuit m) (childAt m g j)))
+
+-- ---- the tests in order
+
+-- "A call declines .. with the first that holds": the number of the first test of a list that does not pass, or 0
+unfoldable pub firstFailed : List (ℕ × Bool) → ℕ
+firstFailed [] = 0
+firstFailed (t ∷ ts) = cond (t .1) (firstFailed ts) (t .0)
+
+-- the tests on the contents, and those on the bodies, "Each test runs over all it concerns before the next."
+unfoldable pub contentsTests : List ℕ → List (ℕ × Bool)
+contentsTests m = (1, leb 12 (length m)) ∷ (2, leb 1 (gateCount m) and leb (gateCount m) 1024) ∷ (3, offsetsTest m) ∷ []
+
+unfoldable pub bodiesTests : List ℕ → List (ℕ × Bool)
+bodiesTests m =
+    (4, allBelow (gateCount m) (kindTest m))
+    ∷ (5, positionsTest m)
+    ∷ (6, allBelow (gateCount m) (childrenTest m))
+    ∷ (7, allBelow (codeCount m) (codeTest m))
+    ∷ (8, allBelow (gateCount m) (freeTest m))
+    ∷ []
+
+unfoldable pub mapTests : List ℕ → List (ℕ × Bool)
+mapTests m = contentsTests m ++ bodiesTests m
+
+-- 0 for an accepted map, else the number that declines it
+unfoldable pub verdict : List ℕ → ℕ
+verdict m = firstFailed (mapTests m)
+
+-- ---- Check
+
+-- "Check returns counts of gates, inputs, children and codes", or a number; "the other numbers of its answer .. are then 0".
+pub record Said : Type 0 where
+  pub number : ℕ
+  pub gates : ℕ
+  pub inputs : ℕ
+  pub children : ℕ
+  pub codes : ℕ
+
+-- document 01's number and values of each case of the answer
+unfoldable pub says : Checked → Said
+says (Accepted c) = record { number = 0; gates = c .gates; inputs = c .inputs; children = c .children; codes = c .codes }
+says (Refused n) = record { number = n; gates = 0; inputs = 0; children = 0; codes = 0 }
+
+unfoldable pub countsOf : List ℕ → Counts
+countsOf m = record { gates = gateCount m; inputs = inputsBefore (circuit m) (gateCount m); children = childCount m; codes = codeCount m }
+
+-- what Check is to say
+unfoldable pub checked : List ℕ → Said
+checked m = cond (eqb (verdict m) 0) (says (Accepted (countsOf m))) (says (Refused (verdict m)))
+
+-- ---- what inner functions go by
+
+-- passed tests 1 to 3
+pub record Shaped (m : List ℕ) : Type 0 where
+  pub few : gateCount m ≤ 1024
+  pub long : length m ≡ lengthGiven m
+
+-- and 5
+pub record Placed (m : List ℕ) : Type 0 where
+  pub shaped : Shaped m
+  pub within : (g : ℕ) → g < gateCount m → firstChild m g + fanIn m g ≤ childCount m
+
+-- and 6 and 7
+pub record Sound (m : List ℕ) : Type 0 where
+  pub placed : Placed m
+  pub below : (g j : ℕ) → g < gateCount m → j < fanIn m g → childAt m g j < g
+  pub coded-gate : (r : ℕ) → r < codeCount m → codeGate m r < gateCount m
+
+-- and 2, 4 and 8: the facts of an accepted map
+pub record IsMap (m : List ℕ) : Type 0 where
+  pub sound : Sound m
+  pub some : 1 ≤ gateCount m
+  pub kinds : (g : ℕ) → g < gateCount m → kindTest m g ≡ true
+  pub ascend : (g j : ℕ) → g < gateCount m → j + 1 < fanIn m g → childAt m g j < childAt m g (j + 1)
+  pub codes-ascend : (r : ℕ) → r + 1 < codeCount m → codeGate m r < codeGate m (r + 1)
+  pub code-values : (r : ℕ) → r < codeCount m → codeValue m r ≤ 1
+  pub free : (g j : ℕ) → g < gateCount m → j < fanIn m g → coded (circuit m) (childAt m g j) ≡ false
+
+-- A map that Check accepts has these facts, and its circuit is well formed.
+pub record AcceptedMap (m : List ℕ) : Type 0 where
+  pub facts : IsMap m
+  pub circuit-is : WellFormed (circuit m)
+
+abbrev pub AcceptedMaps : Type 0
+AcceptedMaps = (m : List ℕ) → verdict m ≡ 0 → AcceptedMap m
+
+-- marks has 1 at each gate that one of the first n codes fixes, and 0 elsewhere
+abbrev pub CodeMarks : List ℕ → ℕ → List ℕ → Type 0
+CodeMarks m n marks = (g : ℕ) → getD marks g 0 ≡ byte (isSome (codeAmong m n g))

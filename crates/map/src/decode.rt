@@ -1,0 +1,77 @@
+// Reading a map's numbers.
+use super::Counts;
+ghost use mathlib.Core.Path.{_≡_};
+ghost use Prim.Native.Nat.{_+_, _*_, _<_, _≤_};
+ghost use lib.ListN.{length};
+ghost use Rattle.circuit.specs.Tools.{byte};
+ghost use Rattle.circuit.specs.Gate.{kindOf, isInput};
+ghost use Rattle.circuit.specs.Evaluate.{inputsBefore};
+ghost use Rattle.map.specs.Map.{u16At, gateCount, codeCount, codesAt, fanIn, childAt, codeGate, circuit};
+ghost use Rattle.map.specs.Check.{Shaped, Placed, countsOf};
+
+// A byte as a number of any size.
+pub fn wide(b: u8) -> usize
+    ensures { λ r. ⌜ (r ≡ b) × (r < 256) ⌝ }
+{
+    b as usize
+}
+
+// The u16 at a place.
+pub fn word(s: &[u8], at: usize) -> usize
+    requires { ⌜ at + 1 < length (now s) ⌝ }
+    ensures { λ r. ⌜ (r ≡ u16At (now (s .entry)) at) × (r < 65536) ⌝ }
+{
+    wide(s[at]) + 256 * wide(s[at + 1])
+}
+
+// Child j of gate g.
+pub fn child(map: &[u8], gates: usize, g: usize, j: usize) -> usize
+    requires { ⌜ Placed (now map) × ((gates ≡ gateCount (now map)) × ((g < gates) × (j < fanIn (now map) g))) ⌝ }
+    ensures { λ r. ⌜ (r ≡ childAt (now (map .entry)) g j) × (r < 65536) ⌝ }
+{
+    let first = word(map, 14 + 4 * g);
+    word(map, 12 + 4 * gates + 2 * (first + j))
+}
+
+// The gate of code r.
+pub fn code_gate(map: &[u8], start: usize, r: usize) -> usize
+    requires { ⌜ Shaped (now map) × ((start ≡ codesAt (now map)) × (r < codeCount (now map))) ⌝ }
+    ensures { λ r'. ⌜ (r' ≡ codeGate (now (map .entry)) r) × (r' < 65536) ⌝ }
+{
+    word(map, start + 4 * r)
+}
+
+// 1 for an input's kind byte, else 0.
+fn input_bit(kind: u8) -> usize
+    ensures { λ r. ⌜ (r ≡ byte (isInput (kindOf kind))) × (r ≤ 1) ⌝ }
+{
+    if kind == 0 { 1 } else { 0 }
+}
+
+// The number of inputs.
+fn count_inputs(map: &[u8], gates: usize) -> usize
+    requires { ⌜ (gates ≤ 1024) × (12 + 4 * gates ≤ length (now map)) ⌝ }
+    ensures { λ r. ⌜ (r ≡ inputsBefore (circuit (now (map .entry))) gates) × (r ≤ gates) ⌝ }
+{
+    let mut count = 0;
+    let mut g = 0;
+    while g < gates {
+        count += input_bit(map[12 + 4 * g]);
+        g += 1;
+    }
+    count
+}
+
+// The counts of an accepted map.
+pub fn counts(map: &[u8]) -> Counts
+    requires { ⌜ Shaped (now map) ⌝ }
+    ensures { λ r. ⌜ r ≡ countsOf (now (map .entry)) ⌝ }
+{
+    let gates = word(map, 2);
+    Counts {
+        gates,
+        inputs: count_inputs(map, gates),
+        children: word(map, 6),
+        codes: word(map, 10),
+    }
+}

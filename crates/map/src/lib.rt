@@ -1,0 +1,47 @@
+// Maps: Check, and the children of a gate.
+pub mod decode;
+mod tests;
+
+ghost use mathlib.Core.Path.{_≡_};
+ghost use Rattle.map.specs.Check.{says, checked};
+ghost use Rattle.map.specs.Children.{PartOf, stretchAt, stretchLength};
+
+pub struct Counts {
+    pub gates: usize,
+    pub inputs: usize,
+    pub children: usize,
+    pub codes: usize,
+}
+
+// Check's answer: the counts of an accepted map, or the number of the first test that fails.
+pub enum Checked {
+    Accepted(Counts),
+    Refused(u8),
+}
+
+pub fn check(map: &[u8]) -> Checked
+    ensures { λ r. ⌜ says r ≡ checked (now (map .entry)) ⌝ }
+{
+    let number = tests::failed(map);
+    if number != 0 {
+        return Checked::Refused(number);
+    }
+    Checked::Accepted(decode::counts(map))
+}
+
+// The stretch of the map that holds a gate's children: empty for an input, a gate past the end or a map that Check declines.
+pub fn children(map: &[u8], gate: usize) -> &[u8]
+    ensures { λ r. ⌜ PartOf (map .entry) r (stretchAt (now (map .entry)) gate) (stretchLength (now (map .entry)) gate) ⌝ }
+{
+    if tests::failed(map) != 0 {
+        return &map[0..0];
+    }
+    let gates = decode::word(map, 2);
+    if gates <= gate {
+        return &map[0..0];
+    }
+    let first = decode::word(map, 14 + 4 * gate);
+    let a = 12 + 4 * gates + 2 * first;
+    let e = a + 2 * decode::wide(map[13 + 4 * gate]);
+    &map[a..e]
+}
