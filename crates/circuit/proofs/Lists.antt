@@ -258,7 +258,7 @@ module _ (p : ℕ → Bool) where
     | inr q ↦ ap length (select-past n q) ∙ rw q (omega arith)
   ]
 
-  place-below : (n g : ℕ) → g < n → p g ≡ true → place-of g < place-of n
+  pub place-below : (n g : ℕ) → g < n → p g ≡ true → place-of g < place-of n
   place-below zero g h q = absurd (omega arith)
   place-below (suc n) g h q = elim (which (eqb g n)) [
     | inl e ↦ rw (← eqb-true g n e) (let m : place-of (suc g) ≡ place-of g + 1 = place-more g ∙ rw q in omega arith)

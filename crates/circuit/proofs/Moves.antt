@@ -9,7 +9,7 @@ use native.Mathlib.Omega.{arith}
 use lib.ListN.{length}
 use lib.Dec.{leb}
 use borrow.Author.Tests.{leb-true, le-leb}
-use Rattle.folds.proofs.Tests.{which}
+use Rattle.folds.proofs.Tests.{which, same-test}
 use Rattle.circuit.specs.declared.Choice.{Choice}
 use Rattle.circuit.specs.declared.Choice.the-variants.{Greedy, Down, Up}
 use Rattle.circuit.specs.Tools.{holdsOfAll, isEmpty, pick}
@@ -45,12 +45,6 @@ module _ (c : Circuit) (s : List ℕ) (os : List (List ℕ)) where
     λ m. (let (i, q) = select-in best o os m in (i, best-is o .0 q)),
     λ h. in-select best o os (h .0) (best-is o .1 (h .1)),
   )
-
--- two tests that tell the same
-same-test : (a b : Bool) → (a ≡ true → b ≡ true) → (b ≡ true → a ≡ true) → a ≡ b
-same-test true b f g = sym (f refl)
-same-test false true f g = g refl
-same-test false false f g = refl
 
 pub greedy-options-are : GreedyOptionsAre
 unfolding greedyOptions

@@ -10,6 +10,12 @@ pub which : (b : Bool) → (b ≡ true) ⊎ (b ≡ false)
 which true = inl refl
 which false = inr refl
 
+-- two tests that tell the same
+pub same-test : (a b : Bool) → (a ≡ true → b ≡ true) → (b ≡ true → a ≡ true) → a ≡ b
+same-test true b f g = sym (f refl)
+same-test false true f g = g refl
+same-test false false f g = refl
+
 -- ---- what a joined test says of its halves
 
 pub and-left : (a b : Bool) → a and b ≡ true → a ≡ true

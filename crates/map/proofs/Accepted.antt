@@ -23,7 +23,7 @@ use Rattle.map.proofs.Laws.{none-failed, contents-passed, contents-some
 
 -- a table of rising numbers rises
 module _ (f : ℕ → ℕ) where
-  steps : (n i j : ℕ) → ((k : ℕ) → k + 1 < n → f k < f (k + 1)) → i < j → j < n → f i < f j
+  pub steps : (n i j : ℕ) → ((k : ℕ) → k + 1 < n → f k < f (k + 1)) → i < j → j < n → f i < f j
   steps n i zero up l h = absurd (omega arith)
   steps n i (suc j) up l h =
       let e : j + 1 ≡ suc j = omega arith in

@@ -83,6 +83,16 @@ none-failed k false ts e = absurd (omega arith)
 
 -- ---- the inputs
 
+pub input-kind : (k : ℕ) → k ≡ 0 → isInput (kindOf k) ≡ true
+input-kind k e = rw e
+
+pub gate-kind : (k : ℕ) → (k ≡ 0 → ⊥) → isInput (kindOf k) ≡ false
+gate-kind zero h = absurd (h refl)
+gate-kind (suc zero) h = refl
+gate-kind (suc (suc zero)) h = refl
+gate-kind (suc (suc (suc zero))) h = refl
+gate-kind (suc (suc (suc (suc k)))) h = refl
+
 pub inputs-none : (m : List ℕ) → 0 ≡ inputsBefore (circuit m) 0
 unfolding inputsBefore
 inputs-none m = refl

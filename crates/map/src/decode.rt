@@ -6,7 +6,7 @@ ghost use lib.ListN.{length};
 ghost use Rattle.circuit.specs.Tools.{byte};
 ghost use Rattle.circuit.specs.Gate.{kindOf, isInput};
 ghost use Rattle.circuit.specs.Evaluate.{inputsBefore};
-ghost use Rattle.map.specs.Map.{u16At, gateCount, codeCount, codesAt, fanIn, childAt, codeGate, circuit};
+ghost use Rattle.map.specs.Map.{u16At, gateCount, codeCount, codesAt, kindByte, fanIn, childAt, codeGate, circuit};
 ghost use Rattle.map.specs.Check.{Shaped, Placed, countsOf};
 
 // A byte as a number of any size.
@@ -42,7 +42,7 @@ pub fn code_gate(map: &[u8], start: usize, r: usize) -> usize
 }
 
 // 1 for an input's kind byte, else 0.
-fn input_bit(kind: u8) -> usize
+pub fn input_bit(kind: u8) -> usize
     ensures { λ r. ⌜ (r ≡ byte (isInput (kindOf kind))) × (r ≤ 1) ⌝ }
 {
     if kind == 0 { 1 } else { 0 }
@@ -74,4 +74,20 @@ pub fn counts(map: &[u8]) -> Counts
         children: word(map, 6),
         codes: word(map, 10),
     }
+}
+
+// The kind byte of gate g.
+pub fn kind(map: &[u8], gates: usize, g: usize) -> u8
+    requires { ⌜ Shaped (now map) × ((gates ≡ gateCount (now map)) × (g < gates)) ⌝ }
+    ensures { λ r. ⌜ r ≡ kindByte (now (map .entry)) g ⌝ }
+{
+    map[12 + 4 * g]
+}
+
+// The fan-in of gate g.
+pub fn fan_in(map: &[u8], gates: usize, g: usize) -> usize
+    requires { ⌜ Shaped (now map) × ((gates ≡ gateCount (now map)) × (g < gates)) ⌝ }
+    ensures { λ r. ⌜ (r ≡ fanIn (now (map .entry)) g) × (r < 256) ⌝ }
+{
+    wide(map[13 + 4 * g])
 }

@@ -282,5 +282,10 @@ pub fn failed(map: &[u8]) -> u8
     if number != 0 {
         return number;
     }
-    bodies_failed(map, decode::word(map, 2), decode::word(map, 6), decode::word(map, 10))
+    bodies_failed(
+        map,
+        decode::word(map, 2),
+        decode::word(map, 6),
+        decode::word(map, 10),
+    )
 }

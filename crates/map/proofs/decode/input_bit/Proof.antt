@@ -1,21 +1,12 @@
 use Prim.Native.Nat.{ℕ, zero, suc, _≤_}
 use mathlib.Core.Path.{_≡_, refl}
 use native.Mathlib.Omega.{arith}
-use Rattle.circuit.specs.Tools.{byte}
-use Rattle.circuit.specs.Gate.{kindOf, isInput}
+use Rattle.map.proofs.Laws.{gate-kind}
 use borrow.Author.Needs.{needs}
 use Rattle.map.proofs.decode.input_bit.Statement.{statement}
 use Rattle.map.proofs.decode.input_bit.Tie as tie
 use Rattle.map.proofs.decode.input_bit.Reads as reads
 use Rattle.map.proofs.decode.input_bit.Lts as lts
-
--- only 0 is an input's
-other : (k : ℕ) → (k ≡ 0 → ⊥) → 0 ≡ byte (isInput (kindOf k))
-other zero h = absurd (h refl)
-other (suc zero) h = refl
-other (suc (suc zero)) h = refl
-other (suc (suc (suc zero))) h = refl
-other (suc (suc (suc (suc k)))) h = refl
 
 -- src/decode.rt:45:1
 returns : tie.Need-returns
@@ -23,7 +14,7 @@ returns c = (rw (c .if1 .taken), omega arith)
 
 -- src/decode.rt:45:1
 returns-2 : tie.Need-returns-2
-returns-2 c = (other _ (c .if1 .left), omega arith)
+returns-2 c = (rw (gate-kind _ (c .if1 .left)), omega arith)
 
 pub input-bit-spec : {M : Type 1} → statement M
 input-bit-spec = tie.close (tie.spec returns returns-2)

@@ -42,17 +42,17 @@ returns-4 : tie.Need-returns-4
 unfolding contentsTests
 returns-4 c = let h : 1 ≤ c .before .before .before .before .word .result = omega arith in
     sym (past _ _ _ (le-leb _ _ (c .before .before .before .before .before .if1 .left))
-      ∙ past _ _ _ (rw (← c .before .before .before .before .word .ensures .0) (and-both _ _ (le-leb 1 _ h) (le-leb _ _ (c .before .before .if3 .left))))
-      ∙ stop _ _ _ (flag-false _ _ (c .if4 .taken) (c .before .offsets-ok .ensures)))
+    ∙ past _ _ _ (rw (← c .before .before .before .before .word .ensures .0) (and-both _ _ (le-leb 1 _ h) (le-leb _ _ (c .before .before .if3 .left))))
+    ∙ stop _ _ _ (flag-false _ _ (c .if4 .taken) (c .before .offsets-ok .ensures)))
 
 -- src/tests.rt:234:1
 returns-5 : tie.Need-returns-5
 unfolding contentsTests
 returns-5 c = let h : 1 ≤ c .before .before .before .before .word .result = omega arith in
     sym (past _ _ _ (le-leb _ _ (c .before .before .before .before .before .if1 .left))
-      ∙ past _ _ _ (rw (← c .before .before .before .before .word .ensures .0) (and-both _ _ (le-leb 1 _ h) (le-leb _ _ (c .before .before .if3 .left))))
-      ∙ past _ _ _ (flag-true _ _ (c .if4 .left) (c .before .offsets-ok .ensures))
-      ∙ no-test)
+    ∙ past _ _ _ (rw (← c .before .before .before .before .word .ensures .0) (and-both _ _ (le-leb 1 _ h) (le-leb _ _ (c .before .before .if3 .left))))
+    ∙ past _ _ _ (flag-true _ _ (c .if4 .left) (c .before .offsets-ok .ensures))
+    ∙ no-test)
 
 pub contents-failed-spec : {M : Type 1} → statement M
 contents-failed-spec =

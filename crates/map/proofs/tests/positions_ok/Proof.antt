@@ -48,7 +48,7 @@ unfolding positionTest positionsTest
 returns c = let l = c .before .before .before .loop in
     let s = c .before .before .before .before .before in
     sym (and-first-false _ _ (all-fails (positionTest (now (s .args .map))) _ (l .g) (omega arith)
-      (ne-eqb _ _ (λ e. c .if1 .taken (c .before .word .ensures .0 ∙ e ∙ sym (l .inv .1 .1 .0))))))
+    (ne-eqb _ _ (λ e. c .if1 .taken (c .before .word .ensures .0 ∙ e ∙ sym (l .inv .1 .1 .0))))))
 
 -- src/tests.rt:78:38
 mul-wide : tie.Need-mul-wide Inv-loop μ-loop
@@ -82,9 +82,10 @@ loop-less c = search needs
 loop-again : tie.Need-loop-again Inv-loop μ-loop
 unfolding positionTest
 loop-again c = let l = c .before .before .before .before .before .loop in
-    let m = now (c .before .before .before .before .before .before .before .args .map) in
-    (search needs,
-     (all-more (positionTest m) (l .g) (l .inv .1 .0) (eq-eqb (firstChild m (l .g)) (fanInsBefore m (l .g)) (cc)), (rw (fans-more m (l .g)) (cc), search needs)))
+    let m = now (c .before .before .before .before .before .before .before .args .map) in (
+      search needs,
+      (all-more (positionTest m) (l .g) (l .inv .1 .0) (eq-eqb (firstChild m (l .g)) (fanInsBefore m (l .g)) (cc)), (rw (fans-more m (l .g)) (cc), search needs)),
+    )
 
 -- src/tests.rt:68:1
 returns-2 : tie.Need-returns-2 Inv-loop μ-loop

@@ -1,0 +1,38 @@
+-- The answers of Evaluate and Mark, from their number. Assumes nothing.
+use Prim.Native.Nat.{ℕ, zero, suc, _<_}
+use mathlib.Core.Path.{_≡_, refl, sym, ap, _∙_}
+use mathlib.Core.Bool.{Bool, true, false}
+use mathlib.Core.List.{List, [], _∷_, _++_}
+use native.Mathlib.Omega.{arith}
+use borrow.Author.Tests.{eq-eqb, ne-eqb}
+use lib.Dec.{eqb}
+use Rattle.circuit.specs.Evaluate.{evaluate, mark}
+use Rattle.map.specs.Map.{circuit}
+use Rattle.map.specs.Check.{firstFailed, mapTests}
+use Rattle.state.specs.declared.Written.the-variants.{Done}
+use Rattle.state.specs.declared.Written.the-variants as written-variants
+use Rattle.state.specs.declared.Marked.the-variants.{Yes, No}
+use Rattle.state.specs.declared.Marked.the-variants as marked-variants
+use Rattle.state.specs.State.{over, writes, evaluationBy, marks, markingBy}
+
+module _ (m row out : List ℕ) where
+  pub refused-by : (k n : ℕ) → k ≡ n → (n ≡ 0 → ⊥) → writes (written-variants.Refused k) out ≡ evaluationBy n m row out
+  unfolding writes evaluationBy
+  refused-by k n e h = rw (ne-eqb n 0 h, e)
+
+  pub done-by : (n : ℕ) (w : List ℕ) → n ≡ 0 → w ≡ over (evaluate (circuit m) row) out → writes Done w ≡ evaluationBy n m row out
+  unfolding writes evaluationBy
+  done-by n w e q = rw (eq-eqb n 0 e, q)
+
+module _ (m s : List ℕ) (n : ℕ) where
+  pub mark-refused : (k : ℕ) → k ≡ n → (n ≡ 0 → ⊥) → marks (marked-variants.Refused k) ≡ markingBy n m s
+  unfolding marks markingBy
+  mark-refused k e h = rw (ne-eqb n 0 h, e)
+
+  pub mark-yes : n ≡ 0 → mark (circuit m) s ≡ true → marks Yes ≡ markingBy n m s
+  unfolding marks markingBy
+  mark-yes e q = rw (eq-eqb n 0 e, q)
+
+  pub mark-no : n ≡ 0 → mark (circuit m) s ≡ false → marks No ≡ markingBy n m s
+  unfolding marks markingBy
+  mark-no e q = rw (eq-eqb n 0 e, q)

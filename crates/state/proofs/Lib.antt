@@ -1,0 +1,4 @@
+pub mod Count
+pub mod Filling
+pub mod Marks
+pub mod Answers

@@ -1,0 +1,52 @@
+use Rattle.map.specs.Map.{kindByte}
+use mathlib.Core.Bool.{Bool·beq}
+use Rattle.circuit.specs.Tools.{same}
+use Rattle.map.proofs.Laws.{gate-kind}
+use mathlib.Core.Path.{_≡_, refl, sym, ap, _∙_}
+use mathlib.Core.Bool.{Bool, true, false}
+use native.Mathlib.Omega.{arith}
+use denote.Ref.{now}
+use Rattle.circuit.specs.Circuit.{justified}
+use Rattle.circuit.specs.Gate.{isInput, kindOf}
+use Rattle.folds.proofs.Tests.{or-first, or-past}
+use borrow.Author.Needs.{needs}
+use Rattle.state.proofs.gates.justified.Statement.{statement}
+use Rattle.state.proofs.gates.justified.Tie as tie
+use Rattle.state.proofs.gates.justified.Reads as reads
+use Rattle.state.proofs.gates.justified.Lts as lts
+use Rattle.map.proofs.decode.kind.Reads as kind-reads
+use Rattle.state.proofs.gates.given.Reads as given-reads
+
+beq-same : (a b : Bool) → Bool·beq a b ≡ same a b
+beq-same true true = refl
+beq-same true false = refl
+beq-same false true = refl
+beq-same false false = refl
+
+-- src/gates.rt:67:8
+kind-requires : tie.Need-kind-requires
+kind-requires c κs = search needs
+
+-- src/gates.rt:68:9
+returns : tie.Need-returns
+unfolding justified
+returns c = sym (or-first _ _ (rw (← c .before .kind .ensures, c .if1 .taken)))
+
+-- src/gates.rt:70:17
+shared-slice-read-is-on : tie.Need-shared-slice-read-is-on
+shared-slice-read-is-on c = search needs
+
+-- src/gates.rt:71:5
+given-requires : tie.Need-given-requires
+given-requires c κs = search needs
+
+-- src/gates.rt:63:1
+returns-2 : tie.Need-returns-2
+unfolding justified
+returns-2 c = let s = c .before .before .before .before .before .before in
+    let i : isInput (kindOf (kindByte (now (s .args .map)) (s .args .g))) ≡ false = rw (← c .before .before .before .kind .ensures) (gate-kind _ (c .before .before .if1 .left)) in
+    beq-same (c .given .result) _ ∙ rw (c .given .ensures) (sym (or-past _ _ i))
+
+pub justified-spec : {M : Type 1} → statement M
+justified-spec =
+    tie.close (tie.spec kind-requires returns shared-slice-read-is-on given-requires returns-2)

@@ -1,0 +1,69 @@
+use Prim.Native.Nat.{_-_, _≤_}
+use mathlib.Core.Path.{_≡_}
+use mathlib.Core.Bool.{Bool, true}
+use native.Mathlib.Omega.{arith}
+use Rattle.folds.specs.Folds.{allBelow}
+use Rattle.folds.proofs.Loops.{loops-of}
+use lib.Dec.{eqb}
+use lib.ListN.{getD}
+use mathlib.Core.Path.{sym, _∙_}
+use Rattle.folds.proofs.Tests.{flag-false, flag-true}
+use Rattle.folds.proofs.Loops.{all-more, all-fails}
+use Rattle.map.specs.Map.{codeGate, codeValue}
+use Rattle.state.specs.State.{codesTest}
+use borrow.Author.Needs.{needs}
+use Rattle.state.proofs.marking.codes_shown.Statement.{statement}
+use Rattle.state.proofs.marking.codes_shown.Tie as tie
+use Rattle.state.proofs.marking.codes_shown.Reads as reads
+use Rattle.state.proofs.marking.codes_shown.Lts as lts
+use Rattle.state.proofs.marking.code_shown.Reads as code-shown-reads
+
+abbrev Inv-loop : tie.InvT-loop
+Inv-loop map start codes s r₀ r = (r ≤ codes) × (allBelow r (λ i. eqb (getD s (codeGate map i) 0) (codeValue map i)) ≡ true)
+
+abbrev μ-loop : tie.MeasureT-loop
+μ-loop map start codes s r₀ r = codes - r
+
+-- src/marking.rt:47:5
+loop-holds : tie.Need-loop-holds Inv-loop μ-loop
+loop-holds c = search (needs, loops-of)
+
+-- src/marking.rt:48:13
+code-shown-requires : tie.Need-code-shown-requires Inv-loop μ-loop
+code-shown-requires c κs = search needs
+
+-- src/marking.rt:49:13
+returns : tie.Need-returns Inv-loop μ-loop
+unfolding codesTest
+returns c = let l = c .before .before .before .loop in sym (all-fails _ _ (l .r) (omega arith) (flag-false _ _ (c .if1 .taken) (c .before .code-shown .ensures)))
+
+-- src/marking.rt:51:9
+add-r : tie.Need-add-r Inv-loop μ-loop
+add-r c = search needs
+
+-- src/marking.rt:47:5
+loop-less : tie.Need-loop-less Inv-loop μ-loop
+loop-less c = search needs
+
+-- src/marking.rt:47:5
+loop-again : tie.Need-loop-again Inv-loop μ-loop
+loop-again c = let l = c .before .before .before .loop in (search needs, all-more _ (l .r) (l .inv .1) (flag-true _ _ (c .if1 .left) (c .before .code-shown .ensures)))
+
+-- src/marking.rt:42:1
+returns-2 : tie.Need-returns-2 Inv-loop μ-loop
+unfolding codesTest
+returns-2 c = search (needs, loops-of)
+
+pub codes-shown-spec : {M : Type 1} → statement M
+codes-shown-spec =
+    tie.close
+    (tie.spec
+    Inv-loop
+    μ-loop
+    loop-holds
+    code-shown-requires
+    returns
+    add-r
+    loop-less
+    loop-again
+    returns-2)

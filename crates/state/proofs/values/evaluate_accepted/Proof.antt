@@ -1,0 +1,87 @@
+use denote.Ref.{now}
+use Prim.Native.Nat.{ℕ, _<_, _≤_}
+use mathlib.Core.Path.{_≡_, refl, sym, ap, _∙_}
+use mathlib.Core.Bool.{Bool, true, false}
+use native.Mathlib.Omega.{arith}
+use lib.ListN.{length, drop}
+use borrow.Author.Tests.{eq-eqb, ne-eqb, le-leb, lt-leb}
+use Rattle.folds.proofs.Tests.{flag-false, flag-true}
+use Rattle.circuit.specs.Evaluate.{inputsBefore}
+use Rattle.map.specs.Map.{gateCount, circuit}
+use Rattle.map.specs.Check.{firstFailed}
+use Rattle.map.proofs.Laws.{past, stop, no-test}
+use Rattle.state.specs.State.{rowTests, rowEvaluation, bitsTest}
+use Rattle.state.proofs.Filling.{bits-of}
+use Rattle.state.proofs.Answers.{refused-by, done-by}
+use borrow.Author.Needs.{needs}
+use Rattle.state.proofs.values.evaluate_accepted.Statement.{statement}
+use Rattle.state.proofs.values.evaluate_accepted.Tie as tie
+use Rattle.state.proofs.values.evaluate_accepted.Reads as reads
+use Rattle.state.proofs.values.evaluate_accepted.Lts as lts
+use Rattle.state.proofs.values.bits_ok.Reads as bits-ok-reads
+use Rattle.state.proofs.values.fill.Reads as fill-reads
+
+-- the number, from the test at place k of the list on
+abbrev from : ℕ → (c : tie.Start) → ℕ
+from k s = firstFailed (drop k (rowTests (now (s .args .map)) (now (s .args .row)) (now (s .args .out))))
+
+q1 : (c : tie.Else1) → from 0 (c .before .before .before .before) ≡ from 1 (c .before .before .before .before)
+unfolding rowTests
+q1 c =
+    let s = c .before .before .before .before in
+    past _ _ _ (eq-eqb _ _ (c .if1 .left ∙ s .pre .1 .1 ∙ ap (inputsBefore (circuit (now (s .args .map)))) (s .pre .1 .0)))
+
+bits : (c : tie.Else2) → bitsTest (now (c .before .before .before .before .before .before .args .row)) ≡ true
+bits c = flag-true _ _ (c .if2 .left) (c .before .bits-ok .ensures)
+
+q2 : (c : tie.Else2) → from 0 (c .before .before .before .before .before .before) ≡ from 2 (c .before .before .before .before .before .before)
+unfolding rowTests
+q2 c = q1 (c .before .before) ∙ past _ _ _ (bits c)
+
+-- src/values.rt:73:9
+returns : tie.Need-returns
+unfolding rowTests rowEvaluation
+returns c = let s = c .before .before .before .before in
+    let e = stop _ _ _ (ne-eqb _ _ (λ z. c .if1 .taken (z ∙ ap (inputsBefore (circuit (now (s .args .map)))) (sym (s .pre .1 .0)) ∙ sym (s .pre .1 .1)))) in
+    refused-by _ _ _ 9 _ (sym e) (λ z. omega arith)
+
+-- src/values.rt:75:9
+bits-ok-requires : tie.Need-bits-ok-requires
+bits-ok-requires c κs = search needs
+
+-- src/values.rt:76:9
+returns-2 : tie.Need-returns-2
+unfolding rowTests rowEvaluation
+returns-2 c = let e = q1 (c .before .before) ∙ stop _ _ _ (flag-false _ _ (c .if2 .taken) (c .before .bits-ok .ensures)) in
+    refused-by _ _ _ 10 _ (sym e) (λ z. omega arith)
+
+-- src/values.rt:79:9
+returns-3 : tie.Need-returns-3
+unfolding rowTests rowEvaluation
+returns-3 c = let s = c .before .before .before .before .before .before .before in
+    let h : length (now (s .args .out)) < gateCount (now (s .args .map)) = omega arith in
+    let e = q2 (c .before) ∙ stop _ _ _ (lt-leb _ _ h) in
+    refused-by _ _ _ 14 _ (sym e) (λ z. omega arith)
+
+-- src/values.rt:81:5
+fill-requires : tie.Need-fill-requires
+fill-requires c κs = let q = c .before .before in
+    let s = q .before .before .before .before .before .before in
+    ((s .pre .0, (s .pre .1 .0, omega arith)), (sym (s .pre .1 .1) ∙ sym (q .before .before .if1 .left), bits-of _ (bits q)))
+
+-- src/values.rt:68:1
+same-length : tie.Need-same-length
+same-length c = search needs
+
+-- src/values.rt:68:1
+returns-4 : tie.Need-returns-4
+unfolding rowTests rowEvaluation
+returns-4 c = let s = c .before .before .before .before .before .before .before .before .before .before .before in
+    let h : gateCount (now (s .args .map)) ≤ length (now (s .args .out)) = omega arith in
+    let e = q2 (c .before .before .before .before .before) ∙ past _ _ _ (le-leb _ _ h) ∙ no-test in
+    done-by _ _ _ _ _ e (c .before .before .fill .ensures)
+
+pub evaluate-accepted-spec : {M : Type 1} → statement M
+evaluate-accepted-spec =
+    tie.close
+    (tie.spec returns bits-ok-requires returns-2 returns-3 fill-requires same-length returns-4)

@@ -1,0 +1,107 @@
+-- Document 01's Evaluate and Mark, on bytes. Assumes nothing.
+use Prim.Native.Nat.{ℕ, _+_, _≤_}
+use mathlib.Core.Path.{_≡_}
+use mathlib.Core.Logic.{_↔_}
+use mathlib.Core.Bool.{Bool, true, false, cond}
+use mathlib.Core.List.{List, [], _∷_, _++_}
+use lib.ListN.{length, getD, take, drop}
+use lib.Dec.{eqb, leb}
+use Rattle.folds.specs.Folds.{allBelow}
+use Rattle.circuit.specs.Tools.{byte}
+use Rattle.circuit.specs.Gate.{kindOf, gives}
+use Rattle.circuit.specs.Evaluate.{inputsBefore, evaluate, mark, Evaluated, Satisfying}
+use Rattle.map.specs.Map.{gateCount, codeCount, codeGate, codeValue, circuit}
+use Rattle.map.specs.Check.{firstFailed, mapTests}
+use Rattle.state.specs.declared.Written.{Written}
+use Rattle.state.specs.declared.Written.the-variants.{Done}
+use Rattle.state.specs.declared.Written.the-variants as written-variants
+use Rattle.state.specs.declared.Marked.{Marked}
+use Rattle.state.specs.declared.Marked.the-variants.{Yes, No}
+use Rattle.state.specs.declared.Marked.the-variants as marked-variants
+
+-- ---- the tests
+
+-- "10. It has a byte above 1.": true where it has none
+unfoldable pub bitsTest : List ℕ → Bool
+bitsTest s = allBelow (length s) (λ i. leb (getD s i 0) 1)
+
+-- Evaluate's tests behind the map's: 9, 10 and 14
+unfoldable pub rowTests : List ℕ → List ℕ → List ℕ → List (ℕ × Bool)
+rowTests m row out =
+    (9, eqb (length row) (inputsBefore (circuit m) (gateCount m)))
+    ∷ (10, bitsTest row)
+    ∷ (14, leb (gateCount m) (length out))
+    ∷ []
+
+-- Mark's tests behind the map's: 9 and 10
+unfoldable pub configurationTests : List ℕ → List ℕ → List (ℕ × Bool)
+configurationTests m s = (9, eqb (length s) (gateCount m)) ∷ (10, bitsTest s) ∷ []
+
+-- ---- Evaluate
+
+-- "Lent output, work and answer memory may be longer than needed; the surplus is never touched.": x, then what of w lies beyond it
+abbrev pub over : List ℕ → List ℕ → List ℕ
+over x w = x ++ drop (length x) w
+
+-- the number of Evaluate's answer, 0 where it is accepted, and the output memory after the call
+pub record Evaluation : Type 0 where
+  pub number : ℕ
+  pub out : List ℕ
+
+-- document 01's number of each case of the answer, beside the memory
+unfoldable pub writes : Written → List ℕ → Evaluation
+writes Done w = record { number = 0; out = w }
+writes (written-variants.Refused n) w = record { number = n; out = w }
+
+-- what a call with this number leaves: "Evaluate takes a row and writes the value of every gate."; declined, it "leaves all lent memory untouched"
+unfoldable pub evaluationBy : ℕ → List ℕ → List ℕ → List ℕ → Evaluation
+evaluationBy n m row out = cond (eqb n 0) (record { number = 0; out = over (evaluate (circuit m) row) out }) (record { number = n; out = out })
+
+unfoldable pub evaluation : List ℕ → List ℕ → List ℕ → Evaluation
+evaluation m row out = evaluationBy (firstFailed (mapTests m ++ rowTests m row out)) m row out
+
+-- the same behind the map's tests, for inner functions
+unfoldable pub rowEvaluation : List ℕ → List ℕ → List ℕ → Evaluation
+rowEvaluation m row out = evaluationBy (firstFailed (rowTests m row out)) m row out
+
+-- ---- Mark
+
+-- the number of Mark's answer, and whether it says yes
+pub record Marking : Type 0 where
+  pub number : ℕ
+  pub yes : Bool
+
+-- document 01's number and value of each case of the answer
+unfoldable pub marks : Marked → Marking
+marks Yes = record { number = 0; yes = true }
+marks No = record { number = 0; yes = false }
+marks (marked-variants.Refused n) = record { number = n; yes = false }
+
+unfoldable pub markingBy : ℕ → List ℕ → List ℕ → Marking
+markingBy n m s = cond (eqb n 0) (record { number = 0; yes = mark (circuit m) s }) (record { number = n; yes = false })
+
+unfoldable pub marking : List ℕ → List ℕ → Marking
+marking m s = markingBy (firstFailed (mapTests m ++ configurationTests m s)) m s
+
+-- the same behind the map's tests, for inner functions
+unfoldable pub configurationMarking : List ℕ → List ℕ → Marking
+configurationMarking m s = markingBy (firstFailed (configurationTests m s)) m s
+
+-- every coded gate has its code, record by record
+unfoldable pub codesTest : List ℕ → List ℕ → Bool
+codesTest m s = allBelow (codeCount m) (λ r. eqb (getD s (codeGate m r) 0) (codeValue m r))
+
+-- ---- for inner functions
+
+-- every byte is 0 or 1
+abbrev pub Bits : List ℕ → Type 0
+Bits s = (i : ℕ) → getD s i 0 ≤ 1
+
+-- how many of the values are 1
+abbrev pub countOn : List Bool → ℕ
+countOn [] = 0
+countOn (v ∷ vs) = byte v + countOn vs
+
+-- v is what a gate of kind byte k gives to any n values of which `ones` are 1
+abbrev pub GivesBy : ℕ → ℕ → ℕ → Bool → Type 0
+GivesBy k n ones v = (vs : List Bool) → length vs ≡ n → countOn vs ≡ ones → v ≡ gives (kindOf k) vs

@@ -1,0 +1,53 @@
+// States of a map: Evaluate and Mark.
+pub mod gates;
+mod marking;
+mod values;
+
+use map::Checked;
+ghost use mathlib.Core.Path.{_≡_};
+ghost use Rattle.state.specs.State.{writes, evaluation, marks, marking};
+
+// Evaluate's answer: the values are written, or the number of the first test that fails.
+pub enum Written {
+    Done,
+    Refused(u8),
+}
+
+// Mark's answer.
+pub enum Marked {
+    Yes,
+    No,
+    Refused(u8),
+}
+
+// Writes the value of every gate into the first bytes of `out`.
+pub fn evaluate(map: &[u8], row: &[u8], out: &mut [u8]) -> Written
+    ensures { λ r. ⌜ writes r (now (out .exit)) ≡ evaluation (now (map .entry)) (now (row .entry)) (now (out .entry)) ⌝ }
+{
+    match map::check(map) {
+        Checked::Refused(k) => Written::Refused(k),
+        Checked::Accepted(counts) => values::evaluate_accepted(
+            map,
+            counts.gates,
+            counts.inputs,
+            row,
+            out,
+        ),
+    }
+}
+
+// Does every gate have the value its children give, and every coded gate its code?
+pub fn mark(map: &[u8], configuration: &[u8]) -> Marked
+    ensures { λ r. ⌜ marks r ≡ marking (now (map .entry)) (now (configuration .entry)) ⌝ }
+{
+    match map::check(map) {
+        Checked::Refused(k) => Marked::Refused(k),
+        Checked::Accepted(counts) => marking::mark_accepted(
+            map,
+            counts.gates,
+            counts.children,
+            counts.codes,
+            configuration,
+        ),
+    }
+}

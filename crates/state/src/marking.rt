@@ -1,0 +1,74 @@
+// Mark on an accepted map.
+use super::Marked;
+use super::gates;
+use super::values;
+use map::decode;
+ghost use mathlib.Core.Path.{_≡_};
+ghost use mathlib.Core.Bool.{Bool};
+ghost use Prim.Native.Nat.{_+_, _*_, _<_, _≤_};
+ghost use lib.ListN.{length, getD};
+ghost use lib.Dec.{eqb};
+ghost use Rattle.folds.specs.Folds.{allBelow};
+ghost use Rattle.circuit.specs.Circuit.{justified};
+ghost use Rattle.map.specs.Map.{gateCount, childCount, codeCount, codesAt, codeGate, codeValue, circuit};
+ghost use Rattle.map.specs.Check.{IsMap};
+ghost use Rattle.state.specs.State.{marks, configurationMarking, codesTest};
+
+// Is every gate an input, or do its children give its value?
+fn gates_right(map: &[u8], gates: usize, s: &[u8]) -> bool
+    requires { ⌜ IsMap (now map) × ((gates ≡ gateCount (now map)) × (gates ≤ length (now s))) ⌝ }
+    ensures { λ r. ⌜ r ≡ allBelow (gateCount (now (map .entry))) (justified (circuit (now (map .entry))) (now (s .entry))) ⌝ }
+{
+    let mut g = 0;
+    while g < gates {
+        if !gates::justified(map, gates, g, s) {
+            return false;
+        }
+        g += 1;
+    }
+    true
+}
+
+// Does the gate of code r have its value?
+fn code_shown(map: &[u8], start: usize, r: usize, s: &[u8]) -> bool
+    requires { ⌜ IsMap (now map) × ((start ≡ codesAt (now map)) × ((r < codeCount (now map)) × (gateCount (now map) ≤ length (now s)))) ⌝ }
+    ensures { λ r'. ⌜ r' ≡ eqb (getD (now (s .entry)) (codeGate (now (map .entry)) r) 0) (codeValue (now (map .entry)) r) ⌝ }
+{
+    let x = decode::code_gate(map, start, r);
+    s[x] == map[start + 4 * r + 2]
+}
+
+// Does every coded gate have its code?
+pub fn codes_shown(map: &[u8], start: usize, codes: usize, s: &[u8]) -> bool
+    requires { ⌜ IsMap (now map) × ((start ≡ codesAt (now map)) × ((codes ≡ codeCount (now map)) × (gateCount (now map) ≤ length (now s)))) ⌝ }
+    ensures { λ r. ⌜ r ≡ codesTest (now (map .entry)) (now (s .entry)) ⌝ }
+{
+    let mut r = 0;
+    while r < codes {
+        if !code_shown(map, start, r, s) {
+            return false;
+        }
+        r += 1;
+    }
+    true
+}
+
+// Tests 9 and 10, and the answer.
+pub fn mark_accepted(map: &[u8], gates: usize, children: usize, codes: usize, s: &[u8]) -> Marked
+    requires { ⌜ IsMap (now map) × ((gates ≡ gateCount (now map)) × ((children ≡ childCount (now map)) × (codes ≡ codeCount (now map)))) ⌝ }
+    ensures { λ r. ⌜ marks r ≡ configurationMarking (now (map .entry)) (now (s .entry)) ⌝ }
+{
+    if s.len() != gates {
+        return Marked::Refused(9);
+    }
+    if !values::bits_ok(s) {
+        return Marked::Refused(10);
+    }
+    if !gates_right(map, gates, s) {
+        return Marked::No;
+    }
+    if !codes_shown(map, 12 + 4 * gates + 2 * children, codes, s) {
+        return Marked::No;
+    }
+    Marked::Yes
+}

@@ -1,0 +1,89 @@
+// Evaluate on an accepted map.
+use super::Written;
+use super::gates;
+use map::decode;
+ghost use mathlib.Core.Path.{_≡_};
+ghost use mathlib.Core.Bool.{Bool, cond};
+ghost use Prim.Native.Nat.{_+_, _*_, _<_, _≤_};
+ghost use lib.ListN.{length, getD};
+ghost use Rattle.circuit.specs.Tools.{byte};
+ghost use Rattle.circuit.specs.Gate.{kindOf, isInput};
+ghost use Rattle.circuit.specs.Circuit.{on, given};
+ghost use Rattle.circuit.specs.Evaluate.{inputsBefore, evaluate};
+ghost use Rattle.map.specs.Map.{gateCount, kindByte, circuit};
+ghost use Rattle.map.specs.Check.{IsMap, firstFailed};
+ghost use Rattle.state.specs.State.{over, bitsTest, writes, rowTests, rowEvaluation, Bits};
+
+// A value as a byte.
+fn bit(v: bool) -> u8
+    ensures { λ r. ⌜ r ≡ byte v ⌝ }
+{
+    if v { 1 } else { 0 }
+}
+
+// Test 10.
+pub fn bits_ok(s: &[u8]) -> bool
+    ensures { λ r. ⌜ r ≡ bitsTest (now (s .entry)) ⌝ }
+{
+    let n = s.len();
+    let mut i = 0;
+    while i < n {
+        if 1 < s[i] {
+            return false;
+        }
+        i += 1;
+    }
+    true
+}
+
+// The value of gate g: an input's from place `at` of the row, another's as its children give it.
+fn gate_value(map: &[u8], gates: usize, g: usize, row: &[u8], at: usize, out: &[u8]) -> u8
+    requires { ⌜ IsMap (now map) × ((gates ≡ gateCount (now map)) × ((g < gates) × (gates ≤ length (now out)))) ⌝ }
+    requires { ⌜ (at ≡ inputsBefore (circuit (now map)) g) × ((inputsBefore (circuit (now map)) gates ≡ length (now row)) × Bits (now row)) ⌝ }
+    ensures { λ r. ⌜ r ≡ byte (cond (isInput (kindOf (kindByte (now (map .entry)) g))) (on (now (row .entry)) at) (given (circuit (now (map .entry))) (now (out .entry)) g)) ⌝ }
+{
+    if decode::kind(map, gates, g) == 0 {
+        return row[at];
+    }
+    bit(gates::given(map, gates, g, out))
+}
+
+// Writes the values, in rising order.
+fn fill(map: &[u8], gates: usize, row: &[u8], out: &mut [u8])
+    requires { ⌜ IsMap (now map) × ((gates ≡ gateCount (now map)) × (gates ≤ length (now out))) ⌝ }
+    requires { ⌜ (inputsBefore (circuit (now map)) gates ≡ length (now row)) × Bits (now row) ⌝ }
+    ensures { λ _. ⌜ now (out .exit) ≡ over (evaluate (circuit (now (map .entry))) (now (row .entry))) (now (out .entry)) ⌝ }
+{
+    let mut at = 0;
+    let mut g = 0;
+    while g < gates {
+        let v = gate_value(map, gates, g, row, at, out);
+        out[g] = v;
+        at += decode::input_bit(decode::kind(map, gates, g));
+        g += 1;
+    }
+}
+
+// Tests 9, 10 and 14, and the values.
+pub fn evaluate_accepted(
+    map: &[u8],
+    gates: usize,
+    inputs: usize,
+    row: &[u8],
+    out: &mut [u8],
+) -> Written
+    requires { ⌜ IsMap (now map) × ((gates ≡ gateCount (now map)) × (inputs ≡ inputsBefore (circuit (now map)) gates)) ⌝ }
+    ensures { λ r. ⌜ writes r (now (out .exit)) ≡ rowEvaluation (now (map .entry)) (now (row .entry)) (now (out .entry)) ⌝ }
+{
+    if row.len() != inputs {
+        return Written::Refused(9);
+    }
+    if !bits_ok(row) {
+        return Written::Refused(10);
+    }
+    if out.len() < gates {
+        return Written::Refused(14);
+    }
+    fill(map, gates, row, out);
+    Written::Done
+}
