@@ -1,7 +1,7 @@
 -- What Check's verdict says: the facts of an accepted map, and that its circuit is well formed. Assumes nothing.
 use Prim.Native.Nat.{ℕ, zero, suc, _+_, _-_, _<_, _≤_}
 use mathlib.Core.Path.{_≡_, refl, sym, ap, _∙_}
-use mathlib.Core.Bool.{Bool, true, false, not}
+use mathlib.Core.Bool.{Bool, true, false, not, true≢false}
 use mathlib.Core.Logic.{inl, inr}
 use mathlib.Core.List.{List, [], _∷_, _++_, map}
 use mathlib.Core.List.{List·Memᴰ as In, Memᴰ·of-map as of-map}
@@ -9,9 +9,9 @@ use native.Mathlib.Nat.{le-of-suc-le-suc, eq-or-lt-of-le}
 use native.Mathlib.Omega.{arith}
 use lib.Dec.{eqb, ltb, leb}
 use lib.ListN.{length, length-map}
-use borrow.Author.Tests.{eqb-true, ltb-true, leb-true, ne-eqb, not-true}
+use borrow.Author.Tests.{eqb-true, eqb-false, ltb-true, leb-true, ne-eqb, not-true}
 use Rattle.folds.specs.Folds.{_and_, _or_, allBelow}
-use Rattle.folds.proofs.Tests.{and-left, and-right, or-past}
+use Rattle.folds.proofs.Tests.{which, and-left, and-right, or-past}
 use Rattle.folds.proofs.Loops.{all-at}
 use Rattle.circuit.specs.Tools.{upTo, Rising}
 use Rattle.circuit.specs.Gate.{kindOf, fanInFits}
@@ -19,7 +19,8 @@ use Rattle.circuit.specs.Circuit.{coded, WellFormed}
 use Rattle.circuit.proofs.Lists.{in-upTo, length-upTo, map-append, rising-end}
 use Rattle.map.specs.Map.{gateCount, codeCount, kindByte, fanIn, childAt, codeGate, kidsOf, circuit}
 use Rattle.map.specs.Check.{kindFits, kindTest, childTest, childrenTest, codeTest, freeTest, firstFailed, contentsTests, bodiesTests, mapTests, verdict, IsMap, AcceptedMap, AcceptedMaps}
-use Rattle.map.proofs.Laws.{none-failed, contents-passed, contents-some, placed-of, sound-of, passed-before, passes-before, contents-numbered}
+use Rattle.circuit.proofs.Source001.{gate-zero}
+use Rattle.map.proofs.Laws.{gate-kind, none-failed, contents-passed, contents-some, placed-of, sound-of, passed-before, passes-before, contents-numbered}
 
 -- a table of rising numbers rises
 module _ (f : ℕ → ℕ) where
@@ -63,9 +64,9 @@ module _ (m : List ℕ) (v : verdict m ≡ 0) where
       let t8 = none-failed 7 _ _ (t7 .1) in
       record {
         sound = sound-of m (placed-of m (contents-passed m contents .1) (t5 .0)) (t6 .0) (t7 .0);
-        some = contents-some m contents;
+        some-gate = contents-some m contents;
         kinds = λ g h. all-at (kindTest m) (gateCount m) g (t4 .0) h;
-        ascend = λ g j h l. ascends (λ i. childAt m g i) j (and-right _ _ (all-at (childTest m g) (fanIn m g) (j + 1) (all-at (childrenTest m) (gateCount m) g (t6 .0) h) l));
+        children-ascend = λ g j h l. ascends (λ i. childAt m g i) j (and-right _ _ (all-at (childTest m g) (fanIn m g) (j + 1) (all-at (childrenTest m) (gateCount m) g (t6 .0) h) l));
         codes-ascend = λ r l. ascends (λ i. codeGate m i) r (and-right _ _ (and-left _ _ (and-left _ _ (all-at (codeTest m) (codeCount m) (r + 1) (t7 .0) l))));
         code-values = λ r l. leb-true _ _ (and-right _ _ (and-left _ _ (all-at (codeTest m) (codeCount m) r (t7 .0) l)));
         free = λ g j h l. not-true _ (all-at (λ i. not (coded (circuit m) (childAt m g i))) (fanIn m g) j (all-at (freeTest m) (gateCount m) g (t8 .0) h) l);
@@ -86,9 +87,16 @@ module _ (m : List ℕ) (k : IsMap m) where
   well-formed = record {
     fits = λ g h. rw (kids-length g) (and-right _ _ (k .kinds g h));
     below = λ g h x i. (let (j, l, e) = kid-at g x i in rw (← e) (k .sound .below g j h l));
-    rising = λ g h. rising-table (λ j. childAt m g j) (fanIn m g) (λ j l. k .ascend g j h l);
+    rising = λ g h. rising-table (λ j. childAt m g j) (fanIn m g) (λ j l. k .children-ascend g j h l);
     free = λ g h x i. (let (j, l, e) = kid-at g x i in rw (← e) (k .free g j h l));
   }
 
 pub accepted-maps : AcceptedMaps
-accepted-maps m v = record { facts = facts m v; circuit-is = well-formed m (facts m v) }
+accepted-maps m v = record {
+  facts = facts m v;
+  circuit-is = well-formed m (facts m v);
+  gate-zero = elim (which (eqb (kindByte m 0) 0)) [
+    | inl q ↦ eqb-true _ _ q
+    | inr q ↦ absurd (true≢false (sym (gate-zero (circuit m) (well-formed m (facts m v)) (facts m v .some-gate)) ∙ gate-kind (kindByte m 0) (eqb-false _ _ q)))
+  ];
+}

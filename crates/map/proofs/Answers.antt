@@ -20,7 +20,7 @@ counts-said : Said → Counts
 counts-said s = record { gates = s .gates; inputs = s .inputs; children = s .children; codes = s .codes }
 
 pub was-accepted : (m : List ℕ) (c : Counts) → says (Accepted c) ≡ checked m → (verdict m ≡ 0) × (c ≡ countsOf m)
-unfolding says checked counts-said
+unfolding says checked countsOf counts-said
 was-accepted m c e = elim (which (eqb (verdict m) 0)) [
   | inl q ↦ (eqb-true (verdict m) 0 q, ap counts-said (rw q at e))
   | inr q ↦ absurd (eqb-false (verdict m) 0 q (sym (ap (λ (s : Said). s .number) (rw q at e))))
@@ -29,7 +29,7 @@ was-accepted m c e = elim (which (eqb (verdict m) 0)) [
 pub was-refused : (m : List ℕ) (k : ℕ) → says (Refused k) ≡ checked m → (k ≡ verdict m) × (verdict m ≡ 0 → ⊥)
 unfolding says checked countsOf
 was-refused m k e = elim (which (eqb (verdict m) 0)) [
-  | inl q ↦ absurd (let g : 0 ≡ gateCount m = ap (λ (s : Said). s .gates) (rw q at e) in omega (arith, facts m (eqb-true (verdict m) 0 q) .some))
+  | inl q ↦ absurd (let g : 0 ≡ gateCount m = ap (λ (s : Said). s .gates) (rw q at e) in omega (arith, facts m (eqb-true (verdict m) 0 q) .some-gate))
   | inr q ↦ (ap (λ (s : Said). s .number) (rw q at e), eqb-false (verdict m) 0 q)
 ]
 

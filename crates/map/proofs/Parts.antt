@@ -1,18 +1,22 @@
 -- The stretch of a gate's children, from what Children reads. Assumes nothing.
-use Prim.Native.Nat.{ℕ, _+_, _*_, _<_, _≤_}
-use mathlib.Core.Path.{_≡_}
-use mathlib.Core.Bool.{Bool, true, false}
+use Prim.Native.Nat.{ℕ, zero, suc, _+_, _*_, _<_, _≤_}
+use mathlib.Core.Path.{_≡_, refl}
+use mathlib.Core.Bool.{Bool, true, false, false≢true}
+use mathlib.Core.Logic.{inl, inr}
 use mathlib.Core.List.{List}
 use native.Mathlib.Omega.{arith}
 use lib.Dec.{eqb, ltb}
-use lib.ListN.{length, take, drop}
-use borrow.Author.Tests.{eq-eqb, ne-eqb, le-ltb, lt-ltb}
+use lib.ListN.{length, getD, take, drop}
+use lib.Seq.{getD-take, getD-drop}
+use borrow.Author.Tests.{eq-eqb, ne-eqb, eqb-true, le-ltb, lt-ltb, ltb-true}
 use denote.Ref.{RefT}
 use Rattle.folds.specs.Folds.{_and_}
-use Rattle.folds.proofs.Tests.{and-both, and-first-false, and-second-false}
-use Rattle.map.specs.Map.{gateCount, childrenAt, fanIn, firstChild}
-use Rattle.map.specs.Check.{verdict}
-use Rattle.map.specs.Children.{PartOf, hasGate, stretchAt, stretchLength}
+use Rattle.folds.proofs.Tests.{which, and-left, and-right, and-both, and-first-false, and-second-false}
+use Rattle.circuit.specs.Gate.{isInput, kindOf}
+use Rattle.map.specs.Map.{u16At, gateCount, childrenAt, kindByte, fanIn, firstChild, childAt}
+use Rattle.map.specs.Check.{kindFits, kindTest, verdict}
+use Rattle.map.specs.Children.{PartOf, hasGate, stretchAt, stretchLength, StretchIs}
+use Rattle.map.proofs.Accepted.{facts}
 
 -- ---- which gates have one
 
@@ -40,3 +44,48 @@ pub whole-part : (m r : RefT (List ℕ)) (g a n : ℕ) → r .ptr ≡ (m .ptr .0
     → hasGate (m .now) g ≡ true → PartOf m r (stretchAt (m .now) g) (stretchLength (m .now) g)
 unfolding stretchAt stretchLength
 whole-part m r g a n p b s l w h = rw (h, ← s, ← l) (record { place = p; within = w; bytes = b })
+
+-- ---- what the stretch holds
+
+module _ (m : List ℕ) (g : ℕ) where
+  stretch-none : hasGate m g ≡ false → stretchLength m g ≡ 0
+  unfolding stretchLength
+  stretch-none h = rw h
+
+  -- two bytes of a part are the part's two bytes
+  part-word : (a n i b : ℕ) → i + 1 < n → b ≡ a + i → u16At (take n (drop a m)) i ≡ u16At m b
+  unfolding u16At
+  part-word a n i b l e =
+      let q : a + (i + 1) ≡ b + 1 = omega arith in
+      rw (getD-take n (drop a m) i 0 (omega arith), getD-take n (drop a m) (i + 1) 0 l, getD-drop a m i 0, getD-drop a m (i + 1) 0, q, e)
+
+  stretch-holds : hasGate m g ≡ true → (j : ℕ) → j < fanIn m g → u16At (take (stretchLength m g) (drop (stretchAt m g) m)) (2 * j) ≡ childAt m g j
+  unfolding stretchAt stretchLength
+  stretch-holds h j l = rw h (part-word (childrenAt m + 2 * firstChild m g) (2 * fanIn m g) (2 * j) _ (omega arith) (omega arith))
+
+  gate-of : hasGate m g ≡ true → (verdict m ≡ 0) × (g < gateCount m)
+  unfolding hasGate
+  gate-of h = (eqb-true _ _ (and-left _ _ h), ltb-true _ _ (and-right _ _ h))
+
+  input-alone : (k n : ℕ) → isInput (kindOf k) ≡ true → kindFits k n ≡ true → n ≡ 0
+  unfolding kindFits
+  input-alone zero n i e = eqb-true _ _ (and-right _ _ e)
+  input-alone (suc zero) n i e = absurd (false≢true i)
+  input-alone (suc (suc zero)) n i e = absurd (false≢true i)
+  input-alone (suc (suc (suc zero))) n i e = absurd (false≢true i)
+  input-alone (suc (suc (suc (suc k)))) n i e = absurd (false≢true i)
+
+  stretch-input : isInput (kindOf (kindByte m g)) ≡ true → stretchLength m g ≡ 0
+  unfolding stretchLength kindTest
+  stretch-input i = elim (which (hasGate m g)) [
+    | inl h ↦ (let (v, l) = gate-of h in let f = input-alone (kindByte m g) (fanIn m g) i (facts m v .kinds g l) in rw (h, f))
+    | inr h ↦ rw h
+  ]
+
+pub stretch-is : StretchIs
+stretch-is m g = record {
+  holds = stretch-holds m g;
+  input = stretch-input m g;
+  past-end = λ h. stretch-none m g (past-end m g h);
+  declined = λ h. stretch-none m g (declined m g h);
+}

@@ -9,8 +9,7 @@ use Rattle.folds.specs.Folds.{_and_, _or_, allBelow}
 use Rattle.circuit.specs.Gate.{lastKind, kindOf, fanInFits}
 use Rattle.circuit.specs.Tools.{byte}
 use Rattle.circuit.specs.Circuit.{isSome, coded, WellFormed}
-use Rattle.circuit.specs.Evaluate.{inputsBefore}
-use Rattle.map.specs.Map.{u16At, gateCount, childCount, codeCount, childrenAt, codesAt, lengthGiven, kindByte, fanIn, firstChild, fanInsBefore, childAt, codeGate, codeValue, codeZero, codeAmong, circuit}
+use Rattle.map.specs.Map.{u16At, gateCount, childCount, codeCount, childrenAt, codesAt, lengthGiven, kindByte, fanIn, firstChild, fanInsBefore, childAt, codeGate, codeValue, codeZero, codeAmong, circuit, inputCount}
 use Rattle.map.specs.declared.Counts.{Counts}
 use Rattle.map.specs.declared.Checked.{Checked}
 use Rattle.map.specs.declared.Checked.the-variants.{Refused, Accepted}
@@ -57,10 +56,11 @@ unfoldable pub firstFailed : List (ℕ × Bool) → ℕ
 firstFailed [] = 0
 firstFailed (t ∷ ts) = cond (t .1) (firstFailed ts) (t .0)
 
--- the tests on the contents, and those on the bodies, "Each test runs over all it concerns before the next."
+-- "1. The map is shorter than 12 bytes. 2. It has 0 gates or more than 1,024." and 3
 unfoldable pub contentsTests : List ℕ → List (ℕ × Bool)
 contentsTests m = (1, leb 12 (length m)) ∷ (2, leb 1 (gateCount m) and leb (gateCount m) 1024) ∷ (3, offsetsTest m) ∷ []
 
+-- 4 to 8, "Each test runs over all it concerns before the next."
 unfoldable pub bodiesTests : List ℕ → List (ℕ × Bool)
 bodiesTests m =
     (4, allBelow (gateCount m) (kindTest m))
@@ -79,8 +79,9 @@ verdict m = firstFailed (mapTests m)
 
 -- ---- Check
 
--- "Check returns counts of gates, inputs, children and codes", or a number; "the other numbers of its answer .. are then 0".
+-- Check's answer: whether the map is accepted, the number that declines it, and "counts of gates, inputs, children and codes"
 pub record Said : Type 0 where
+  pub accepted : Bool
   pub number : ℕ
   pub gates : ℕ
   pub inputs : ℕ
@@ -89,51 +90,56 @@ pub record Said : Type 0 where
 
 -- document 01's number and values of each case of the answer
 unfoldable pub says : Checked → Said
-says (Accepted c) = record { number = 0; gates = c .gates; inputs = c .inputs; children = c .children; codes = c .codes }
-says (Refused n) = record { number = n; gates = 0; inputs = 0; children = 0; codes = 0 }
+says (Accepted c) = record { accepted = true; number = 0; gates = c .gates; inputs = c .inputs; children = c .children; codes = c .codes }
+says (Refused n) = record { accepted = false; number = n; gates = 0; inputs = 0; children = 0; codes = 0 }
 
-unfoldable pub countsOf : List ℕ → Counts
-countsOf m = record { gates = gateCount m; inputs = inputsBefore (circuit m) (gateCount m); children = childCount m; codes = codeCount m }
-
--- what Check is to say
+-- What Check is to say. "the other numbers of its answer .. are then 0"
 unfoldable pub checked : List ℕ → Said
-checked m = cond (eqb (verdict m) 0) (says (Accepted (countsOf m))) (says (Refused (verdict m)))
+checked m =
+    cond (eqb (verdict m) 0)
+    (record { accepted = true; number = 0; gates = gateCount m; inputs = inputCount m; children = childCount m; codes = codeCount m })
+    (record { accepted = false; number = verdict m; gates = 0; inputs = 0; children = 0; codes = 0 })
 
 -- ---- what inner functions go by
 
--- passed tests 1 to 3
+-- what is used of tests 1 to 3
 pub record Shaped (m : List ℕ) : Type 0 where
   pub few : gateCount m ≤ 1024
   pub long : length m ≡ lengthGiven m
 
--- and 5
+-- and of 5
 pub record Placed (m : List ℕ) : Type 0 where
   pub shaped : Shaped m
   pub within : (g : ℕ) → g < gateCount m → firstChild m g + fanIn m g ≤ childCount m
 
--- and 6 and 7
+-- and of 6 and 7
 pub record Sound (m : List ℕ) : Type 0 where
   pub placed : Placed m
   pub below : (g j : ℕ) → g < gateCount m → j < fanIn m g → childAt m g j < g
   pub coded-gate : (r : ℕ) → r < codeCount m → codeGate m r < gateCount m
 
--- and 2, 4 and 8: the facts of an accepted map
+-- and of 2, 4 and 8: the facts of an accepted map that inner functions go by
 pub record IsMap (m : List ℕ) : Type 0 where
   pub sound : Sound m
-  pub some : 1 ≤ gateCount m
+  pub some-gate : 1 ≤ gateCount m
   pub kinds : (g : ℕ) → g < gateCount m → kindTest m g ≡ true
-  pub ascend : (g j : ℕ) → g < gateCount m → j + 1 < fanIn m g → childAt m g j < childAt m g (j + 1)
+  pub children-ascend : (g j : ℕ) → g < gateCount m → j + 1 < fanIn m g → childAt m g j < childAt m g (j + 1)
   pub codes-ascend : (r : ℕ) → r + 1 < codeCount m → codeGate m r < codeGate m (r + 1)
   pub code-values : (r : ℕ) → r < codeCount m → codeValue m r ≤ 1
   pub free : (g j : ℕ) → g < gateCount m → j < fanIn m g → coded (circuit m) (childAt m g j) ≡ false
 
--- A map that Check accepts has these facts, and its circuit is well formed.
+-- A map that Check accepts has these facts, its circuit is well formed, and "Gate 0 of an accepted map is always an input."
 pub record AcceptedMap (m : List ℕ) : Type 0 where
   pub facts : IsMap m
   pub circuit-is : WellFormed (circuit m)
+  pub gate-zero : kindByte m 0 ≡ 0
 
 abbrev pub AcceptedMaps : Type 0
 AcceptedMaps = (m : List ℕ) → verdict m ≡ 0 → AcceptedMap m
+
+-- the counts of a map
+unfoldable pub countsOf : List ℕ → Counts
+countsOf m = record { gates = gateCount m; inputs = inputCount m; children = childCount m; codes = codeCount m }
 
 -- marks has 1 at each gate that one of the first n codes fixes, and 0 elsewhere
 abbrev pub CodeMarks : List ℕ → ℕ → List ℕ → Type 0

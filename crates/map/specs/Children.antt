@@ -1,13 +1,14 @@
 -- Document 01's Children. Assumes nothing.
-use Prim.Native.Nat.{ℕ, _+_, _*_, _≤_}
+use Prim.Native.Nat.{ℕ, _+_, _*_, _≤_, _<_}
 use mathlib.Core.Path.{_≡_}
-use mathlib.Core.Bool.{Bool, cond}
+use mathlib.Core.Bool.{Bool, true, cond}
 use mathlib.Core.List.{List}
 use lib.ListN.{length, take, drop}
 use lib.Dec.{eqb, ltb}
 use denote.Ref.{RefT}
 use Rattle.folds.specs.Folds.{_and_}
-use Rattle.map.specs.Map.{gateCount, childrenAt, fanIn, firstChild}
+use Rattle.circuit.specs.Gate.{isInput, kindOf}
+use Rattle.map.specs.Map.{u16At, gateCount, childrenAt, kindByte, fanIn, firstChild, childAt}
 use Rattle.map.specs.Check.{verdict}
 
 -- "a returned part of the caller's map slice": r is the part of s that starts at byte a and has n bytes. Its place in the memory of s, that it lies
@@ -17,13 +18,24 @@ pub record PartOf (s r : RefT (List ℕ)) (a n : ℕ) : Type 0 where
   pub within : a + n ≤ length (s .now)
   pub bytes : r .now ≡ take n (drop a (s .now))
 
--- "it is empty for an input, a gate number past the end or a map that Check declines": is g a gate of an accepted map
+-- is g a gate of an accepted map
 unfoldable pub hasGate : List ℕ → ℕ → Bool
 hasGate m g = eqb (verdict m) 0 and ltb g (gateCount m)
 
--- "the stretch of the lent map that holds a gate's children": where it starts and how many bytes it has. An input's fan-in is 0, so its stretch is empty.
+-- "the stretch of the lent map that holds a gate's children": where it starts
 unfoldable pub stretchAt : List ℕ → ℕ → ℕ
 stretchAt m g = cond (hasGate m g) (childrenAt m + 2 * firstChild m g) 0
 
+-- and how many bytes it has: "it is empty for an input, a gate number past the end or a map that Check declines"
 unfoldable pub stretchLength : List ℕ → ℕ → ℕ
 stretchLength m g = cond (hasGate m g) (2 * fanIn m g) 0
+
+-- It holds the gate's children, and is empty where document 01 says so. (An accepted input has fan-in 0.)
+pub record Stretch (m : List ℕ) (g : ℕ) : Type 0 where
+  pub holds : hasGate m g ≡ true → (j : ℕ) → j < fanIn m g → u16At (take (stretchLength m g) (drop (stretchAt m g) m)) (2 * j) ≡ childAt m g j
+  pub input : isInput (kindOf (kindByte m g)) ≡ true → stretchLength m g ≡ 0
+  pub past-end : gateCount m ≤ g → stretchLength m g ≡ 0
+  pub declined : (verdict m ≡ 0 → ⊥) → stretchLength m g ≡ 0
+
+abbrev pub StretchIs : Type 0
+StretchIs = (m : List ℕ) (g : ℕ) → Stretch m g

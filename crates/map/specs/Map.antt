@@ -8,6 +8,7 @@ use lib.Dec.{eqb}
 use Rattle.circuit.specs.Tools.{upTo}
 use Rattle.circuit.specs.Gate.{kindOf}
 use Rattle.circuit.specs.Circuit.{Circuit}
+use Rattle.circuit.specs.Evaluate.{inputsBefore}
 
 -- "All numbers are unsigned, little-endian ..; u16 is two bytes.": the u16 at a place
 unfoldable pub u16At : List ℕ → ℕ → ℕ
@@ -29,10 +30,10 @@ abbrev pub childrenAt : List ℕ → ℕ
 childrenAt m = 12 + 4 * gateCount m
 
 abbrev pub codesAt : List ℕ → ℕ
-codesAt m = 12 + 4 * gateCount m + 2 * childCount m
+codesAt m = childrenAt m + 2 * childCount m
 
 abbrev pub lengthGiven : List ℕ → ℕ
-lengthGiven m = 12 + 4 * gateCount m + 2 * childCount m + 4 * codeCount m
+lengthGiven m = codesAt m + 4 * codeCount m
 
 -- "Gate record, 4 bytes: kind, fan-in, first child position (u16)."
 abbrev pub kindByte : List ℕ → ℕ → ℕ
@@ -51,11 +52,11 @@ fanInsBefore m (suc g) = fanInsBefore m g + fanIn m g
 
 -- "Child: u16, the number of a gate, counted from 0.": gate g's child number j
 abbrev pub childAt : List ℕ → ℕ → ℕ → ℕ
-childAt m g j = u16At m (12 + 4 * gateCount m + 2 * (firstChild m g + j))
+childAt m g j = u16At m (childrenAt m + 2 * (firstChild m g + j))
 
 -- "Code record, 4 bytes: gate (u16), value 0 or 1, and a zero byte.": code number r
 abbrev pub codeAt : List ℕ → ℕ → ℕ
-codeAt m r = 12 + 4 * gateCount m + 2 * childCount m + 4 * r
+codeAt m r = codesAt m + 4 * r
 
 abbrev pub codeGate : List ℕ → ℕ → ℕ
 codeGate m r = u16At m (codeAt m r)
@@ -78,3 +79,7 @@ kidsOf m g = map (λ j. childAt m g j) (upTo (fanIn m g))
 
 abbrev pub circuit : List ℕ → Circuit
 circuit m = record { gates = gateCount m; kind = λ g. kindOf (kindByte m g); kids = kidsOf m; code = codeAmong m (codeCount m) }
+
+-- how many inputs it has
+abbrev pub inputCount : List ℕ → ℕ
+inputCount m = inputsBefore (circuit m) (gateCount m)

@@ -2,3 +2,4 @@ pub mod Count
 pub mod Filling
 pub mod Marks
 pub mod Answers
+pub mod Meaning

@@ -17,7 +17,7 @@ use Rattle.circuit.proofs.Evaluate.{shows-code}
 use Rattle.map.specs.Map.{gateCount, codeCount, codeGate, codeValue, codeAmong, circuit}
 use Rattle.map.specs.Check.{IsMap}
 use Rattle.map.proofs.Codes.{code-record, code-found}
-use Rattle.state.specs.State.{codesTest, Bits}
+use Rattle.state.specs.State.{shownByRecord, Bits}
 
 module _ (m s : List ℕ) (k : IsMap m) (b : Bits s) where
   abbrev gatesTest : Bool
@@ -30,8 +30,8 @@ module _ (m s : List ℕ) (k : IsMap m) (b : Bits s) where
       let q = shows-code (codeAmong m (codeCount m) (codeGate m r)) (on s (codeGate m r)) .0 e (eqb (codeValue m r) 1) (code-found m k (codeCount m) r l (omega arith)) in
       eq-eqb _ _ (bit-same _ _ (b (codeGate m r)) (k .code-values r l) q)
 
-  shown-record : (g : ℕ) → codesTest m s ≡ true → showsCode (codeAmong m (codeCount m) g) (on s g) ≡ true
-  unfolding codesTest
+  shown-record : (g : ℕ) → shownByRecord m s ≡ true → showsCode (codeAmong m (codeCount m) g) (on s g) ≡ true
+  unfolding shownByRecord
   shown-record g e = shows-code (codeAmong m (codeCount m) g) (on s g) .1 (λ v q.
       (let (r, l, f, h) = code-record m (codeCount m) g v q in
       shown r g v f (eqb-true _ _ (all-at (λ i. eqb (getD s (codeGate m i) 0) (codeValue m i)) (codeCount m) r e l)) h))
@@ -39,8 +39,8 @@ module _ (m s : List ℕ) (k : IsMap m) (b : Bits s) where
       shown : (r x : ℕ) (v : Bool) → codeGate m r ≡ x → getD s (codeGate m r) 0 ≡ codeValue m r → v ≡ eqb (codeValue m r) 1 → on s x ≡ v
       shown r x v f q h = rw (← f, q, h)
 
-  pub mark-tests : mark (circuit m) s ≡ gatesTest and codesTest m s
-  unfolding mark codesTest
+  pub mark-tests : mark (circuit m) s ≡ gatesTest and shownByRecord m s
+  unfolding mark shownByRecord
   mark-tests = same-test _ _
       (λ e. and-both _ _
       (all-of _ (gateCount m) (λ g h. and-left _ _ (all-at _ (gateCount m) g e h)))

@@ -9,9 +9,9 @@ use lib.Dec.{eqb, leb}
 use Rattle.folds.specs.Folds.{allBelow}
 use Rattle.circuit.specs.Tools.{byte}
 use Rattle.circuit.specs.Gate.{kindOf, gives}
-use Rattle.circuit.specs.Evaluate.{inputsBefore, evaluate, mark, Evaluated, Satisfying}
-use Rattle.map.specs.Map.{gateCount, codeCount, codeGate, codeValue, circuit}
-use Rattle.map.specs.Check.{firstFailed, mapTests}
+use Rattle.circuit.specs.Evaluate.{evaluate, mark, Evaluated, Satisfying}
+use Rattle.map.specs.Map.{gateCount, codeCount, codeGate, codeValue, circuit, inputCount}
+use Rattle.map.specs.Check.{firstFailed, mapTests, verdict}
 use Rattle.state.specs.declared.Written.{Written}
 use Rattle.state.specs.declared.Written.the-variants.{Done}
 use Rattle.state.specs.declared.Written.the-variants as written-variants
@@ -25,10 +25,10 @@ use Rattle.state.specs.declared.Marked.the-variants as marked-variants
 unfoldable pub bitsTest : List ℕ → Bool
 bitsTest s = allBelow (length s) (λ i. leb (getD s i 0) 1)
 
--- Evaluate's tests behind the map's: 9, 10 and 14
+-- Evaluate's tests behind the map's: "9. The row or configuration has the wrong length.", 10, "14. Output .. memory is shorter than the gate count."
 unfoldable pub rowTests : List ℕ → List ℕ → List ℕ → List (ℕ × Bool)
 rowTests m row out =
-    (9, eqb (length row) (inputsBefore (circuit m) (gateCount m)))
+    (9, eqb (length row) (inputCount m))
     ∷ (10, bitsTest row)
     ∷ (14, leb (gateCount m) (length out))
     ∷ []
@@ -43,55 +43,77 @@ configurationTests m s = (9, eqb (length s) (gateCount m)) ∷ (10, bitsTest s) 
 abbrev pub over : List ℕ → List ℕ → List ℕ
 over x w = x ++ drop (length x) w
 
--- the number of Evaluate's answer, 0 where it is accepted, and the output memory after the call
+-- Evaluate's answer, whether the call is accepted and else its number, and the output memory after the call
 pub record Evaluation : Type 0 where
+  pub accepted : Bool
   pub number : ℕ
   pub out : List ℕ
 
 -- document 01's number of each case of the answer, beside the memory
 unfoldable pub writes : Written → List ℕ → Evaluation
-writes Done w = record { number = 0; out = w }
-writes (written-variants.Refused n) w = record { number = n; out = w }
+writes Done w = record { accepted = true; number = 0; out = w }
+writes (written-variants.Refused n) w = record { accepted = false; number = n; out = w }
 
 -- what a call with this number leaves: "Evaluate takes a row and writes the value of every gate."; declined, it "leaves all lent memory untouched"
 unfoldable pub evaluationBy : ℕ → List ℕ → List ℕ → List ℕ → Evaluation
-evaluationBy n m row out = cond (eqb n 0) (record { number = 0; out = over (evaluate (circuit m) row) out }) (record { number = n; out = out })
+evaluationBy n m row out =
+    cond (eqb n 0)
+    (record { accepted = true; number = 0; out = over (evaluate (circuit m) row) out })
+    (record { accepted = false; number = n; out = out })
 
 unfoldable pub evaluation : List ℕ → List ℕ → List ℕ → Evaluation
 evaluation m row out = evaluationBy (firstFailed (mapTests m ++ rowTests m row out)) m row out
 
--- the same behind the map's tests, for inner functions
-unfoldable pub rowEvaluation : List ℕ → List ℕ → List ℕ → Evaluation
-rowEvaluation m row out = evaluationBy (firstFailed (rowTests m row out)) m row out
-
 -- ---- Mark
 
--- the number of Mark's answer, and whether it says yes
+-- Mark's answer: whether the call is accepted, else its number, and whether it says yes
 pub record Marking : Type 0 where
+  pub accepted : Bool
   pub number : ℕ
   pub yes : Bool
 
 -- document 01's number and value of each case of the answer
 unfoldable pub marks : Marked → Marking
-marks Yes = record { number = 0; yes = true }
-marks No = record { number = 0; yes = false }
-marks (marked-variants.Refused n) = record { number = n; yes = false }
+marks Yes = record { accepted = true; number = 0; yes = true }
+marks No = record { accepted = true; number = 0; yes = false }
+marks (marked-variants.Refused n) = record { accepted = false; number = n; yes = false }
 
 unfoldable pub markingBy : ℕ → List ℕ → List ℕ → Marking
-markingBy n m s = cond (eqb n 0) (record { number = 0; yes = mark (circuit m) s }) (record { number = n; yes = false })
+markingBy n m s =
+    cond (eqb n 0)
+    (record { accepted = true; number = 0; yes = mark (circuit m) s })
+    (record { accepted = false; number = n; yes = false })
 
 unfoldable pub marking : List ℕ → List ℕ → Marking
 marking m s = markingBy (firstFailed (mapTests m ++ configurationTests m s)) m s
 
--- the same behind the map's tests, for inner functions
+-- ---- what they mean
+
+-- The first bytes of the output memory, one per gate, are the one configuration that obeys every gate and has the row's values; the surplus stands.
+pub record Wrote (m row out after : List ℕ) : Type 0 where
+  pub values : Evaluated (circuit m) row (take (gateCount m) after)
+  pub only : (s : List ℕ) → Evaluated (circuit m) row s → s ≡ take (gateCount m) after
+  pub surplus : drop (gateCount m) after ≡ drop (gateCount m) out
+
+abbrev pub EvaluateWrites : Type 0
+EvaluateWrites = (m row out : List ℕ) → evaluation m row out .accepted ≡ true → Wrote m row out (evaluation m row out .out)
+
+-- Mark says yes exactly to the satisfying assignments of accepted maps.
+abbrev pub MarkSays : Type 0
+MarkSays = (m s : List ℕ) → (marking m s .yes ≡ true) ↔ ((verdict m ≡ 0) × Satisfying (circuit m) s)
+
+-- ---- for inner functions
+
+-- Evaluate and Mark behind the map's tests
+unfoldable pub rowEvaluation : List ℕ → List ℕ → List ℕ → Evaluation
+rowEvaluation m row out = evaluationBy (firstFailed (rowTests m row out)) m row out
+
 unfoldable pub configurationMarking : List ℕ → List ℕ → Marking
 configurationMarking m s = markingBy (firstFailed (configurationTests m s)) m s
 
 -- every coded gate has its code, record by record
-unfoldable pub codesTest : List ℕ → List ℕ → Bool
-codesTest m s = allBelow (codeCount m) (λ r. eqb (getD s (codeGate m r) 0) (codeValue m r))
-
--- ---- for inner functions
+unfoldable pub shownByRecord : List ℕ → List ℕ → Bool
+shownByRecord m s = allBelow (codeCount m) (λ r. eqb (getD s (codeGate m r) 0) (codeValue m r))
 
 -- every byte is 0 or 1
 abbrev pub Bits : List ℕ → Type 0

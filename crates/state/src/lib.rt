@@ -36,7 +36,7 @@ pub fn evaluate(map: &[u8], row: &[u8], out: &mut [u8]) -> Written
     }
 }
 
-// Does every gate have the value its children give, and every coded gate its code?
+// Does every gate that isn't an input have the value its children give, and every coded gate its code?
 pub fn mark(map: &[u8], configuration: &[u8]) -> Marked
     ensures { λ r. ⌜ marks r ≡ marking (now (map .entry)) (now (configuration .entry)) ⌝ }
 {

@@ -12,7 +12,7 @@ ghost use Rattle.folds.specs.Folds.{allBelow};
 ghost use Rattle.circuit.specs.Circuit.{justified};
 ghost use Rattle.map.specs.Map.{gateCount, childCount, codeCount, codesAt, codeGate, codeValue, circuit};
 ghost use Rattle.map.specs.Check.{IsMap};
-ghost use Rattle.state.specs.State.{marks, configurationMarking, codesTest};
+ghost use Rattle.state.specs.State.{marks, configurationMarking, shownByRecord};
 
 // Is every gate an input, or do its children give its value?
 fn gates_right(map: &[u8], gates: usize, s: &[u8]) -> bool
@@ -41,7 +41,7 @@ fn code_shown(map: &[u8], start: usize, r: usize, s: &[u8]) -> bool
 // Does every coded gate have its code?
 pub fn codes_shown(map: &[u8], start: usize, codes: usize, s: &[u8]) -> bool
     requires { ⌜ IsMap (now map) × ((start ≡ codesAt (now map)) × ((codes ≡ codeCount (now map)) × (gateCount (now map) ≤ length (now s)))) ⌝ }
-    ensures { λ r. ⌜ r ≡ codesTest (now (map .entry)) (now (s .entry)) ⌝ }
+    ensures { λ r. ⌜ r ≡ shownByRecord (now (map .entry)) (now (s .entry)) ⌝ }
 {
     let mut r = 0;
     while r < codes {

@@ -17,7 +17,7 @@ failed-requires c κs = search needs
 
 -- src/lib.rt:26:9
 returns : tie.Need-returns
-unfolding checked
+unfolding checked says
 returns c = rw (ne-eqb _ 0 (λ e. c .if1 .taken (c .before .failed .ensures ∙ e)), c .before .failed .ensures)
 
 -- src/lib.rt:28:23
@@ -26,7 +26,7 @@ counts-requires c κs = facts _ (sym (c .before .failed .ensures) ∙ c .if1 .le
 
 -- src/lib.rt:21:1
 returns-2 : tie.Need-returns-2
-unfolding checked
+unfolding checked says countsOf
 returns-2 c = rw (eq-eqb _ 0 (sym (c .before .before .failed .ensures) ∙ c .before .if1 .left), c .counts .ensures)
 
 pub check-spec : {M : Type 1} → statement M

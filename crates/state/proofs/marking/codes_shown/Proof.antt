@@ -10,7 +10,7 @@ use mathlib.Core.Path.{sym, _∙_}
 use Rattle.folds.proofs.Tests.{flag-false, flag-true}
 use Rattle.folds.proofs.Loops.{all-more, all-fails}
 use Rattle.map.specs.Map.{codeGate, codeValue}
-use Rattle.state.specs.State.{codesTest}
+use Rattle.state.specs.State.{shownByRecord}
 use borrow.Author.Needs.{needs}
 use Rattle.state.proofs.marking.codes_shown.Statement.{statement}
 use Rattle.state.proofs.marking.codes_shown.Tie as tie
@@ -34,7 +34,7 @@ code-shown-requires c κs = search needs
 
 -- src/marking.rt:49:13
 returns : tie.Need-returns Inv-loop μ-loop
-unfolding codesTest
+unfolding shownByRecord
 returns c = let l = c .before .before .before .loop in sym (all-fails _ _ (l .r) (omega arith) (flag-false _ _ (c .if1 .taken) (c .before .code-shown .ensures)))
 
 -- src/marking.rt:51:9
@@ -51,7 +51,7 @@ loop-again c = let l = c .before .before .before .loop in (search needs, all-mor
 
 -- src/marking.rt:42:1
 returns-2 : tie.Need-returns-2 Inv-loop μ-loop
-unfolding codesTest
+unfolding shownByRecord
 returns-2 c = search (needs, loops-of)
 
 pub codes-shown-spec : {M : Type 1} → statement M

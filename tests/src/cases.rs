@@ -1,0 +1,1205 @@
+//! Test cases: the frame they are written in (FORMAT.md), a fixed list with
+//! expected lines written by hand, and random cases from a seed.
+
+use crate::engine::{self, AND, INPUT, NOT, OR, XOR};
+
+/// "A case file has at most 262,144 bytes."
+pub const FILE_LIMIT: usize = 262_144;
+/// "room is at most 2,048."
+pub const ROOM_LIMIT: usize = 2_048;
+/// "The output memory of 'e' is `room` bytes, each 170 (0xAA) before the call."
+pub const PATTERN: u8 = 170;
+
+/// One framed case.
+#[derive(Debug, Clone, PartialEq, Eq)]
+pub struct Case {
+    pub op: u8,
+    pub map: Vec<u8>,
+    pub body: Vec<u8>,
+    pub room: usize,
+}
+
+/// A case of the fixed list with its name and its line, written by hand.
+#[derive(Debug, Clone)]
+pub struct Named {
+    pub name: String,
+    pub case: Case,
+    pub expected: String,
+}
+
+// ---------------------------------------------------------------- the frame
+
+fn push16(bytes: &mut Vec<u8>, number: usize) {
+    assert!(number <= 65_535, "{number} doesn't fit a u16");
+    bytes.push((number % 256) as u8);
+    bytes.push((number / 256) as u8);
+}
+
+impl Case {
+    /// The bytes of the case in a case file.
+    pub fn framed(&self) -> Vec<u8> {
+        let mut bytes = vec![self.op];
+        push16(&mut bytes, self.map.len());
+        push16(&mut bytes, self.body.len());
+        push16(&mut bytes, self.room);
+        bytes.extend_from_slice(&self.map);
+        bytes.extend_from_slice(&self.body);
+        bytes
+    }
+
+    pub fn size(&self) -> usize {
+        7 + self.map.len() + self.body.len()
+    }
+}
+
+/// The bytes of a case file.
+pub fn file<'a>(cases: impl IntoIterator<Item = &'a Case>) -> Vec<u8> {
+    let mut bytes = Vec::new();
+    for case in cases {
+        bytes.extend_from_slice(&case.framed());
+    }
+    bytes
+}
+
+/// Reads a case file. "The program stops at the end of the file or at a case
+/// that is cut off." What the format doesn't allow is an error, never a guess.
+pub fn parse(bytes: &[u8]) -> Result<Vec<Case>, String> {
+    if bytes.len() > FILE_LIMIT {
+        return Err(format!("the case file has {} bytes", bytes.len()));
+    }
+    let mut cases = Vec::new();
+    let mut at = 0;
+    while bytes.len() - at >= 7 {
+        let number = |place: usize| bytes[at + place] as usize + 256 * bytes[at + place + 1] as usize;
+        let op = bytes[at];
+        let map_length = number(1);
+        let body_length = number(3);
+        let room = number(5);
+        if bytes.len() - at < 7 + map_length + body_length {
+            break;
+        }
+        let map = bytes[at + 7..at + 7 + map_length].to_vec();
+        let body = bytes[at + 7 + map_length..at + 7 + map_length + body_length].to_vec();
+        at += 7 + map_length + body_length;
+        let shape = match op {
+            b'c' => body.is_empty() && room == 0,
+            b'k' => body.len() == 2 && room == 0,
+            b'e' => room <= ROOM_LIMIT,
+            b'm' => room == 0,
+            _ => false,
+        };
+        if !shape {
+            return Err(format!("case {} isn't of the format", cases.len()));
+        }
+        cases.push(Case { op, map, body, room });
+    }
+    Ok(cases)
+}
+
+fn with_memory(word: String, memory: &[u8]) -> String {
+    let mut line = word;
+    if !memory.is_empty() {
+        line.push(' ');
+    }
+    for byte in memory {
+        line.push_str(&format!("{byte:02x}"));
+    }
+    line
+}
+
+/// The line that the independent engine gives for a case, without line feed.
+pub fn answer(case: &Case) -> String {
+    match case.op {
+        b'c' => match engine::check(&case.map) {
+            Ok(n) => format!("OK {} {} {} {}", n.gates, n.inputs, n.children, n.codes),
+            Err(number) => format!("REFUSED {number}"),
+        },
+        b'k' => {
+            let gate = case.body[0] as u16 + 256 * case.body[1] as u16;
+            let mut line = String::from("CHILDREN");
+            for pair in engine::children(&case.map, gate).chunks(2) {
+                line.push_str(&format!(" {}", pair[0] as u16 + 256 * pair[1] as u16));
+            }
+            line
+        }
+        b'e' => {
+            let mut memory = vec![PATTERN; case.room];
+            match engine::evaluate(&case.map, &case.body, &mut memory) {
+                Ok(()) => with_memory(String::from("DONE"), &memory),
+                Err(number) => with_memory(format!("REFUSED {number}"), &memory),
+            }
+        }
+        b'm' => match engine::mark(&case.map, &case.body) {
+            Ok(true) => String::from("YES"),
+            Ok(false) => String::from("NO"),
+            Err(number) => format!("REFUSED {number}"),
+        },
+        other => panic!("no such op: {other}"),
+    }
+}
+
+// ------------------------------------------------------- tools for the lists
+
+/// A map's bytes from bare records; only the table of contents is worked out.
+/// Its six numbers are taken modulo 65,536, for maps that are wrong on purpose.
+fn raw(gates: &[(u8, u8, u16)], children: &[u16], codes: &[(u16, u8, u8)]) -> Vec<u8> {
+    let second = 12 + 4 * gates.len();
+    let third = second + 2 * children.len();
+    let mut map = Vec::new();
+    for number in [12, gates.len(), second, children.len(), third, codes.len()] {
+        push16(&mut map, number % 65_536);
+    }
+    for (kind, fan_in, first) in gates {
+        map.push(*kind);
+        map.push(*fan_in);
+        push16(&mut map, *first as usize);
+    }
+    for child in children {
+        push16(&mut map, *child as usize);
+    }
+    for (gate, value, zero) in codes {
+        push16(&mut map, *gate as usize);
+        map.push(*value);
+        map.push(*zero);
+    }
+    map
+}
+
+/// A map's bytes from kinds with children, and codes; nothing is tested.
+fn build(gates: &[(u8, Vec<u16>)], codes: &[(u16, u8)]) -> Vec<u8> {
+    let mut records = Vec::new();
+    let mut all = Vec::new();
+    for (kind, children) in gates {
+        records.push((*kind, children.len() as u8, all.len() as u16));
+        all.extend_from_slice(children);
+    }
+    let codes: Vec<(u16, u8, u8)> = codes.iter().map(|(g, v)| (*g, *v, 0)).collect();
+    raw(&records, &all, &codes)
+}
+
+fn map(gates: &[(u8, &[u16])], codes: &[(u16, u8)]) -> Vec<u8> {
+    let gates: Vec<(u8, Vec<u16>)> = gates.iter().map(|(k, c)| (*k, c.to_vec())).collect();
+    build(&gates, codes)
+}
+
+/// The map with one byte changed.
+fn with(map: &[u8], at: usize, byte: u8) -> Vec<u8> {
+    let mut changed = map.to_vec();
+    assert!(changed[at] != byte, "nothing changed at {at}");
+    changed[at] = byte;
+    changed
+}
+
+/// The map with one u16 changed.
+fn with16(map: &[u8], at: usize, number: u16) -> Vec<u8> {
+    let mut changed = map.to_vec();
+    changed[at] = (number % 256) as u8;
+    changed[at + 1] = (number / 256) as u8;
+    assert!(changed != map, "nothing changed at {at}");
+    changed
+}
+
+/// Twelve bytes of contents and nothing else.
+fn header(six: [u16; 6]) -> Vec<u8> {
+    let mut bytes = Vec::new();
+    for number in six {
+        push16(&mut bytes, number as usize);
+    }
+    bytes
+}
+
+/// One byte for each digit.
+fn digits(text: &str) -> Vec<u8> {
+    text.bytes()
+        .filter(|b| *b != b' ')
+        .map(|b| b - b'0')
+        .collect()
+}
+
+/// The expected line of an accepted evaluate: values by hand as digits, then
+/// the surplus, untouched.
+fn done(values: &str, surplus: usize) -> String {
+    let mut line = String::from("DONE ");
+    for digit in values.chars().filter(|c| *c != ' ') {
+        line.push('0');
+        line.push(digit);
+    }
+    line.push_str(&"aa".repeat(surplus));
+    line
+}
+
+/// The expected line of a declined evaluate: the memory is untouched.
+fn declined(number: u8, room: usize) -> String {
+    if room == 0 {
+        format!("REFUSED {number}")
+    } else {
+        format!("REFUSED {number} {}", "aa".repeat(room))
+    }
+}
+
+struct List(Vec<Named>);
+
+impl List {
+    fn add(&mut self, name: &str, case: Case, expected: &str) {
+        self.0.push(Named {
+            name: String::from(name),
+            case,
+            expected: String::from(expected),
+        });
+    }
+
+    fn check(&mut self, name: &str, map: &[u8], expected: &str) {
+        let case = Case { op: b'c', map: map.to_vec(), body: vec![], room: 0 };
+        self.add(&format!("check {name}"), case, expected);
+    }
+
+    fn children(&mut self, name: &str, map: &[u8], gate: u16, expected: &str) {
+        let body = vec![(gate % 256) as u8, (gate / 256) as u8];
+        let case = Case { op: b'k', map: map.to_vec(), body, room: 0 };
+        self.add(&format!("children {name}"), case, expected);
+    }
+
+    fn evaluate(&mut self, name: &str, map: &[u8], row: &[u8], room: usize, expected: &str) {
+        let case = Case { op: b'e', map: map.to_vec(), body: row.to_vec(), room };
+        self.add(&format!("evaluate {name}"), case, expected);
+    }
+
+    fn mark(&mut self, name: &str, map: &[u8], configuration: &[u8], expected: &str) {
+        let body = configuration.to_vec();
+        let case = Case { op: b'm', map: map.to_vec(), body, room: 0 };
+        self.add(&format!("mark {name}"), case, expected);
+    }
+}
+
+// ------------------------------------------------------------ maps by hand
+
+const ADDER: [(u8, &[u16]); 8] = [
+    (INPUT, &[]),
+    (INPUT, &[]),
+    (INPUT, &[]),
+    (XOR, &[0, 1]),
+    (AND, &[0, 1]),
+    (AND, &[2, 3]),
+    (XOR, &[2, 3]),
+    (OR, &[4, 5]),
+];
+
+/// The adder of the bench examples: gates from byte 12, children from byte 44,
+/// code from byte 64, 68 bytes.
+pub fn adder() -> Vec<u8> {
+    map(&ADDER, &[(7, 1)])
+}
+
+/// Inputs that stand after other gates: 0 input, 1 NOT(0), 2 input,
+/// 3 XOR(1,2), 4 input, 5 OR(0,4). Gates from 12, children from 36.
+fn mixed() -> Vec<u8> {
+    map(
+        &[
+            (INPUT, &[]),
+            (NOT, &[0]),
+            (INPUT, &[]),
+            (XOR, &[1, 2]),
+            (INPUT, &[]),
+            (OR, &[0, 4]),
+        ],
+        &[],
+    )
+}
+
+const EIGHT: [u16; 8] = [0, 1, 2, 3, 4, 5, 6, 7];
+
+/// Eight inputs, 8 AND(0..7), 9 OR(0..7).
+fn wide() -> Vec<u8> {
+    let mut gates = vec![(INPUT, vec![]); 8];
+    gates.push((AND, EIGHT.to_vec()));
+    gates.push((OR, EIGHT.to_vec()));
+    build(&gates, &[])
+}
+
+/// Eight inputs, ANDs of the first 2 to 8 of them (gates 8 to 14), ORs of the
+/// first 2 to 8 (gates 15 to 21).
+fn fans() -> Vec<u8> {
+    let mut gates = vec![(INPUT, vec![]); 8];
+    for kind in [AND, OR] {
+        for fan_in in 2..=8 {
+            gates.push((kind, EIGHT[..fan_in].to_vec()));
+        }
+    }
+    build(&gates, &[])
+}
+
+/// `n` inputs and no other gate.
+fn inputs(n: usize, codes: &[(u16, u8)]) -> Vec<u8> {
+    build(&vec![(INPUT, vec![]); n], codes)
+}
+
+/// `n` inputs and one last gate with all of them as children.
+fn over(n: u16, kind: u8) -> Vec<u8> {
+    let mut gates = vec![(INPUT, vec![]); n as usize];
+    gates.push((kind, (0..n).collect()));
+    build(&gates, &[])
+}
+
+/// An input and `n` - 1 NOTs, each of the gate before; the last is coded 1.
+fn chain(n: u16) -> Vec<u8> {
+    let mut gates = vec![(INPUT, vec![])];
+    for g in 1..n {
+        gates.push((NOT, vec![g - 1]));
+    }
+    build(&gates, &[(n - 1, 1)])
+}
+
+/// The most of everything: 8 inputs and 1,016 coded ANDs of all eight.
+fn full() -> Vec<u8> {
+    let mut gates = vec![(INPUT, vec![]); 8];
+    let mut codes = Vec::new();
+    for g in 8..1024 {
+        gates.push((AND, EIGHT.to_vec()));
+        codes.push((g, 1));
+    }
+    build(&gates, &codes)
+}
+
+// ------------------------------------------------------------ the fixed list
+
+/// The fixed cases. A name with "gives n" says which number declines the call;
+/// the expected lines are written by hand and not asked of the engine.
+pub fn fixed() -> Vec<Named> {
+    let mut list = List(Vec::new());
+    fixed_check_accepted(&mut list);
+    fixed_check_refused(&mut list);
+    fixed_precedence(&mut list);
+    fixed_children(&mut list);
+    fixed_evaluate(&mut list);
+    fixed_mark(&mut list);
+    list.0
+}
+
+fn fixed_check_accepted(l: &mut List) {
+    l.check("adder", &adder(), "OK 8 3 10 1");
+    l.check("adder without codes", &map(&ADDER, &[]), "OK 8 3 10 0");
+    l.check("adder with two codes", &map(&ADDER, &[(6, 0), (7, 1)]), "OK 8 3 10 2");
+    l.check("one input, no code (P10)", &inputs(1, &[]), "OK 1 1 0 0");
+    l.check("one coded input", &inputs(1, &[(0, 1)]), "OK 1 1 0 1");
+    l.check(
+        "P9's map",
+        &map(&[(INPUT, &[]), (NOT, &[0]), (AND, &[0, 1])], &[(2, 1)]),
+        "OK 3 1 3 1",
+    );
+    l.check(
+        "P11's map",
+        &map(
+            &[(INPUT, &[]), (INPUT, &[]), (NOT, &[0]), (AND, &[0, 2]), (OR, &[1, 3])],
+            &[(4, 1)],
+        ),
+        "OK 5 2 5 1",
+    );
+    l.check("inputs after other gates", &mixed(), "OK 6 3 5 0");
+    l.check(
+        "a coded input that is nobody's child",
+        &map(&[(INPUT, &[]), (INPUT, &[]), (NOT, &[0])], &[(1, 1), (2, 0)]),
+        "OK 3 2 1 2",
+    );
+    l.check("fan-in 8 for AND", &over(8, AND), "OK 9 8 8 0");
+    l.check("fan-in 8 for OR", &over(8, OR), "OK 9 8 8 0");
+    l.check("fan-in 2 for AND", &over(2, AND), "OK 3 2 2 0");
+    l.check("fan-in 2 for OR", &over(2, OR), "OK 3 2 2 0");
+    l.check("fan-in 2 to 8 for AND and OR", &fans(), "OK 22 8 70 0");
+    l.check("exactly 1,024 gates", &inputs(1024, &[]), "OK 1024 1024 0 0");
+    let coded: Vec<(u16, u8)> = (0..1024).map(|g| (g, (g % 2) as u8)).collect();
+    l.check("1,024 coded inputs", &inputs(1024, &coded), "OK 1024 1024 0 1024");
+    l.check("chain of 300 gates", &chain(300), "OK 300 1 299 1");
+    l.check("1,024 gates, 8,128 children, 1,016 codes", &full(), "OK 1024 8 8128 1016");
+}
+
+fn fixed_check_refused(l: &mut List) {
+    let adder = adder();
+
+    l.check("gives 1, empty map", &[], "REFUSED 1");
+    l.check("gives 1, one byte", &[12], "REFUSED 1");
+    l.check("gives 1, adder cut to 11 bytes", &adder[..11], "REFUSED 1");
+    l.check("gives 1, 11 bytes of 255", &[255; 11], "REFUSED 1");
+
+    l.check("gives 2, header of 12 zeros", &[0; 12], "REFUSED 2");
+    l.check("gives 2, 0 gates in a header of 12 bytes", &header([12, 0, 12, 0, 12, 0]), "REFUSED 2");
+    l.check("gives 2, 0 gates and a child", &raw(&[], &[0], &[]), "REFUSED 2");
+    l.check("gives 2, 0 gates and a code", &raw(&[], &[], &[(0, 0, 0)]), "REFUSED 2");
+    l.check("gives 2, 1,025 gates with all else right", &inputs(1025, &[]), "REFUSED 2");
+    l.check("gives 2, 1,025 gates in a bare header", &header([12, 1025, 4112, 0, 4112, 0]), "REFUSED 2");
+    l.check("gives 2, 1,280 gates (low byte 0)", &header([12, 1280, 5132, 0, 5132, 0]), "REFUSED 2");
+    l.check("gives 2, 65,535 gates", &header([12, 65535, 8, 0, 8, 0]), "REFUSED 2");
+    l.check("gives 2, header of 12 bytes of 255", &[255; 12], "REFUSED 2");
+
+    for (name, at, number) in [
+        ("first offset 0", 0, 0),
+        ("first offset 11", 0, 11),
+        ("first offset 13", 0, 13),
+        ("first offset 268 (low byte right)", 0, 268),
+        ("second offset 0", 4, 0),
+        ("second offset 42", 4, 42),
+        ("second offset 45", 4, 45),
+        ("second offset 300 (low byte right)", 4, 300),
+        ("third offset 0", 8, 0),
+        ("third offset 62", 8, 62),
+        ("third offset 65", 8, 65),
+        ("third offset 320 (low byte right)", 8, 320),
+        ("one gate less in the contents", 2, 7),
+        ("one gate more in the contents", 2, 9),
+        ("one child less in the contents", 6, 9),
+        ("one child more in the contents", 6, 11),
+        ("no code in the contents", 10, 0),
+        ("two codes in the contents", 10, 2),
+    ] {
+        l.check(&format!("gives 3, {name}"), &with16(&adder, at, number), "REFUSED 3");
+    }
+    l.check("gives 3, one byte cut off", &adder[..67], "REFUSED 3");
+    l.check("gives 3, the code cut off", &adder[..64], "REFUSED 3");
+    l.check("gives 3, adder cut to its contents", &adder[..12], "REFUSED 3");
+    l.check("gives 3, one byte too long", &[&adder[..], &[0]].concat(), "REFUSED 3");
+    l.check("gives 3, four bytes too long", &[&adder[..], &[0; 4]].concat(), "REFUSED 3");
+    l.check("gives 3, 1 gate and no body", &header([12, 1, 16, 0, 16, 0]), "REFUSED 3");
+    let one = |six| [header(six), vec![0; 4]].concat();
+    l.check("gives 3, offsets of a gap", &[header([12, 1, 18, 0, 18, 0]), vec![0; 6]].concat(), "REFUSED 3");
+    l.check(
+        "gives 3, 1 gate and 32,768 children, third offset wraps modulo 65,536",
+        &one([12, 1, 16, 32768, 16, 0]),
+        "REFUSED 3",
+    );
+    l.check(
+        "gives 3, 1 gate and 16,384 codes, length wraps modulo 65,536",
+        &one([12, 1, 16, 0, 16, 16384]),
+        "REFUSED 3",
+    );
+    l.check(
+        "gives 3, 1 gate and 32,767 children, third offset 65,550 as 14",
+        &one([12, 1, 16, 32767, 14, 0]),
+        "REFUSED 3",
+    );
+    l.check(
+        "gives 3, 1 gate, all other counts 65,535",
+        &one([12, 1, 16, 65535, 14, 65535]),
+        "REFUSED 3",
+    );
+
+    // Kinds and fan-ins.
+    l.check("gives 4, kind 5 of the only gate", &raw(&[(5, 0, 0)], &[], &[]), "REFUSED 4");
+    l.check("gives 4, kind 5 with fan-in 2", &with(&adder, 24, 5), "REFUSED 4");
+    l.check("gives 4, kind 5 of the last gate", &with(&adder, 40, 5), "REFUSED 4");
+    l.check("gives 4, kind 255", &with(&adder, 40, 255), "REFUSED 4");
+    l.check("gives 4, kind 128 of an input", &with(&adder, 12, 128), "REFUSED 4");
+    l.check("gives 4, fan-in 9 for AND", &over(9, AND), "REFUSED 4");
+    l.check("gives 4, fan-in 9 for OR", &over(9, OR), "REFUSED 4");
+    l.check("gives 4, fan-in 1 for AND", &over(1, AND), "REFUSED 4");
+    l.check("gives 4, fan-in 1 for OR", &over(1, OR), "REFUSED 4");
+    l.check("gives 4, fan-in 0 for AND", &map(&[(INPUT, &[]), (AND, &[])], &[]), "REFUSED 4");
+    l.check("gives 4, fan-in 0 for OR", &map(&[(INPUT, &[]), (OR, &[])], &[]), "REFUSED 4");
+    l.check("gives 4, fan-in 255 for OR", &over(255, OR), "REFUSED 4");
+    l.check("gives 4, fan-in 0 for NOT", &map(&[(INPUT, &[]), (NOT, &[])], &[]), "REFUSED 4");
+    l.check("gives 4, fan-in 2 for NOT", &over(2, NOT), "REFUSED 4");
+    l.check("gives 4, fan-in 0 for XOR", &map(&[(INPUT, &[]), (XOR, &[])], &[]), "REFUSED 4");
+    l.check("gives 4, fan-in 1 for XOR", &over(1, XOR), "REFUSED 4");
+    l.check("gives 4, fan-in 3 for XOR", &over(3, XOR), "REFUSED 4");
+    l.check("gives 4, fan-in 1 for an input", &over(1, INPUT), "REFUSED 4");
+    l.check("gives 4, fan-in 2 for an input", &over(2, INPUT), "REFUSED 4");
+
+    // Places and the child count.
+    l.check("gives 5, first child position of gate 0 is 1", &with(&adder, 14, 1), "REFUSED 5");
+    l.check("gives 5, high byte of a first child position", &with(&adder, 27, 1), "REFUSED 5");
+    l.check("gives 5, last first child position one low", &with(&adder, 42, 7), "REFUSED 5");
+    l.check("gives 5, last first child position one high", &with(&adder, 42, 9), "REFUSED 5");
+    l.check("gives 5, an input after a NOT with position 0", &with(&mixed(), 22, 0), "REFUSED 5");
+    l.check("gives 5, one child too many", &raw(&[(0, 0, 0), (1, 1, 0)], &[0, 0], &[]), "REFUSED 5");
+    l.check("gives 5, one child too few", &raw(&[(0, 0, 0), (1, 1, 0)], &[], &[]), "REFUSED 5");
+    l.check("gives 5, an input and a child", &raw(&[(0, 0, 0)], &[0], &[]), "REFUSED 5");
+    l.check("gives 5, fan-in raised within bounds", &with(&adder, 33, 3), "REFUSED 5");
+    l.check(
+        "gives 5, two gates share their children",
+        &raw(&[(0, 0, 0), (0, 0, 0), (2, 2, 0), (3, 2, 0)], &[0, 1], &[]),
+        "REFUSED 5",
+    );
+    l.check(
+        "gives 5, children of two gates in turned order",
+        &raw(&[(0, 0, 0), (1, 1, 1), (1, 1, 0)], &[0, 0], &[]),
+        "REFUSED 5",
+    );
+    l.check("gives 5, 32,758 children in a map of 65,532 bytes", &raw(&[(0, 0, 0)], &[0; 32758], &[]), "REFUSED 5");
+
+    // Children.
+    l.check("gives 6, equal children of an AND", &with(&adder, 50, 0), "REFUSED 6");
+    l.check("gives 6, equal children of an XOR", &with(&adder, 46, 0), "REFUSED 6");
+    l.check(
+        "gives 6, equal children at places 7 and 8 of an OR",
+        &with(&over(8, OR), 12 + 36 + 14, 6),
+        "REFUSED 6",
+    );
+    l.check(
+        "gives 6, descending children",
+        &map(&[(INPUT, &[]), (INPUT, &[]), (XOR, &[1, 0])], &[]),
+        "REFUSED 6",
+    );
+    l.check(
+        "gives 6, third child below the second and above the first",
+        &map(&[(INPUT, &[]), (INPUT, &[]), (INPUT, &[]), (OR, &[0, 2, 1])], &[]),
+        "REFUSED 6",
+    );
+    l.check(
+        "gives 6, child equal to its gate",
+        &map(&[(INPUT, &[]), (NOT, &[1])], &[]),
+        "REFUSED 6",
+    );
+    l.check("gives 6, last child equal to its gate", &with(&adder, 62, 7), "REFUSED 6");
+    l.check(
+        "gives 6, child above its gate",
+        &map(&[(INPUT, &[]), (NOT, &[2]), (INPUT, &[])], &[]),
+        "REFUSED 6",
+    );
+    l.check("gives 6, child past the last gate", &with(&adder, 62, 8), "REFUSED 6");
+    l.check("gives 6, child 65,535", &with16(&adder, 62, 65535), "REFUSED 6");
+    l.check("gives 6, high byte of a child", &with(&adder, 63, 1), "REFUSED 6");
+    l.check("gives 6, gate 0 is a NOT of gate 0", &map(&[(NOT, &[0])], &[]), "REFUSED 6");
+    l.check("gives 6, gate 0 is a XOR", &map(&[(XOR, &[0, 1]), (INPUT, &[])], &[]), "REFUSED 6");
+
+    // Codes.
+    l.check("gives 7, equal codes", &map(&ADDER, &[(7, 1), (7, 1)]), "REFUSED 7");
+    l.check("gives 7, descending codes", &map(&ADDER, &[(7, 1), (6, 0)]), "REFUSED 7");
+    l.check(
+        "gives 7, third code between the first two",
+        &inputs(6, &[(1, 0), (5, 1), (3, 0)]),
+        "REFUSED 7",
+    );
+    l.check("gives 7, code's gate one past the end", &map(&ADDER, &[(8, 1)]), "REFUSED 7");
+    l.check("gives 7, code's gate 65,535", &map(&ADDER, &[(65535, 1)]), "REFUSED 7");
+    l.check("gives 7, code's gate 263 (low byte right)", &map(&ADDER, &[(263, 1)]), "REFUSED 7");
+    l.check("gives 7, value 2", &with(&adder, 66, 2), "REFUSED 7");
+    l.check("gives 7, value 255", &with(&adder, 66, 255), "REFUSED 7");
+    l.check("gives 7, zero byte 1", &with(&adder, 67, 1), "REFUSED 7");
+    l.check("gives 7, zero byte 128", &with(&adder, 67, 128), "REFUSED 7");
+    l.check("gives 7, zero byte 1 of the first of two codes", &with(&inputs(2, &[(0, 1), (1, 1)]), 23, 1), "REFUSED 7");
+    l.check("gives 7, two codes on one input", &inputs(1, &[(0, 0), (0, 1)]), "REFUSED 7");
+    let more: Vec<(u16, u8)> = (0..301).map(|g| (g, 0)).collect();
+    l.check("gives 7, 301 codes on 300 inputs", &inputs(300, &more), "REFUSED 7");
+
+    // Coded children.
+    l.check("gives 8, coded gate in the middle", &map(&ADDER, &[(3, 1)]), "REFUSED 8");
+    l.check("gives 8, coded input with a parent", &map(&ADDER, &[(0, 1)]), "REFUSED 8");
+    l.check("gives 8, second code on the last child", &map(&ADDER, &[(5, 1), (7, 1)]), "REFUSED 8");
+    l.check(
+        "gives 8, last of three codes on a child",
+        &map(&[(INPUT, &[]), (INPUT, &[]), (INPUT, &[]), (NOT, &[2])], &[(0, 1), (1, 1), (2, 1)]),
+        "REFUSED 8",
+    );
+    let late = chain(300);
+    let late = with16(&late, late.len() - 4, 298);
+    l.check("gives 8, code 298 of a chain of 300 gates", &late, "REFUSED 8");
+}
+
+/// "Each test runs over all it concerns before the next."
+fn fixed_precedence(l: &mut List) {
+    let adder = adder();
+    l.check("gives 1, before 2: 11 zeros", &[0; 11], "REFUSED 1");
+    l.check("gives 2, before 3: 0 gates and wrong offsets", &with16(&adder, 2, 0), "REFUSED 2");
+    l.check("gives 2, before 3: 1,025 gates in the adder", &with16(&adder, 2, 1025), "REFUSED 2");
+    l.check("gives 2, before 3: 1,025 gates and first offset 0", &with(&inputs(1025, &[])[..200], 0, 0), "REFUSED 2");
+    l.check("gives 3, before 4: kind 5 and a byte too many", &[&with(&adder, 12, 5)[..], &[0]].concat(), "REFUSED 3");
+    l.check("gives 3, before 4: kind 5 and first offset 13", &with(&with(&adder, 12, 5), 0, 13), "REFUSED 3");
+    l.check("gives 3, before 7: value 2 and a byte too few", &with(&adder, 66, 2)[..67], "REFUSED 3");
+    l.check("gives 4, before 5: kind 5 at the last gate, position wrong at gate 0", &with(&with(&adder, 40, 5), 14, 1), "REFUSED 4");
+    l.check("gives 4, before 5: fan-in 9 at the last gate makes the count wrong", &with(&adder, 41, 9), "REFUSED 4");
+    l.check("gives 4, before 6: kind 5 at the last gate, equal children at gate 3", &with(&with(&adder, 40, 5), 46, 0), "REFUSED 4");
+    l.check("gives 5, before 6: position wrong at the last gate, equal children at gate 3", &with(&with(&adder, 42, 7), 46, 0), "REFUSED 5");
+    l.check("gives 5, before 6: child count wrong, child equal to its gate", &raw(&[(0, 0, 0), (1, 1, 0)], &[1, 0], &[]), "REFUSED 5");
+    l.check("gives 5, before 7: position wrong at the last gate, value 2", &with(&with(&adder, 42, 7), 66, 2), "REFUSED 5");
+    l.check("gives 6, before 7: equal children at the last gate, value 2", &with(&with(&adder, 62, 4), 66, 2), "REFUSED 6");
+    l.check("gives 6, before 8: child equal to its gate is coded", &map(&[(INPUT, &[]), (NOT, &[1])], &[(1, 1)]), "REFUSED 6");
+    l.check("gives 7, before 8: coded child first, value 2 in the last code", &map(&ADDER, &[(3, 1), (7, 2)]), "REFUSED 7");
+    l.check("gives 7, before 8: coded child twice", &map(&ADDER, &[(3, 1), (3, 1)]), "REFUSED 7");
+    l.check("gives 7, before 8: value 2 on a coded child", &map(&ADDER, &[(3, 2)]), "REFUSED 7");
+
+    let coded_child = map(&ADDER, &[(3, 1)]);
+    l.evaluate("gives 8, before 9: coded child and an empty row", &coded_child, &[], 8, &declined(8, 8));
+    l.evaluate("gives 9, before 10: four bytes, one of them 2", &adder, &[0, 2, 0, 0], 9, &declined(9, 9));
+    l.evaluate("gives 9, before 14: two bytes and no memory", &adder, &[0, 0], 0, &declined(9, 0));
+    l.evaluate("gives 10, before 14: byte 2 and memory of 7 bytes", &adder, &[0, 0, 2], 7, &declined(10, 7));
+    l.evaluate("gives 7, before 14: value 2 and memory of 7 bytes", &with(&adder, 66, 2), &[0, 0, 0], 7, &declined(7, 7));
+    l.mark("gives 8, before 9: coded child and an empty configuration", &coded_child, &[], "REFUSED 8");
+    l.mark("gives 9, before 10: nine bytes, one of them 2", &adder, &digits("200000000"), "REFUSED 9");
+    l.mark("gives 9, before 10: seven bytes, all of them 255", &adder, &[255; 7], "REFUSED 9");
+}
+
+fn fixed_children(l: &mut List) {
+    let adder = adder();
+    l.children("of an input", &adder, 0, "CHILDREN");
+    l.children("of the last input", &adder, 2, "CHILDREN");
+    l.children("of a XOR", &adder, 3, "CHILDREN 0 1");
+    l.children("of an AND", &adder, 5, "CHILDREN 2 3");
+    l.children("of the last gate", &adder, 7, "CHILDREN 4 5");
+    l.children("of a gate one past the end", &adder, 8, "CHILDREN");
+    l.children("of gate 259 (low byte 3)", &adder, 259, "CHILDREN");
+    l.children("of gate 65,535", &adder, 65535, "CHILDREN");
+    l.children("of gate 16,384 (place wraps to the first record)", &adder, 16384, "CHILDREN");
+    let mixed = mixed();
+    l.children("of a NOT", &mixed, 1, "CHILDREN 0");
+    l.children("of an input after a NOT", &mixed, 2, "CHILDREN");
+    l.children("of a XOR between inputs", &mixed, 3, "CHILDREN 1 2");
+    l.children("of an OR after three inputs", &mixed, 5, "CHILDREN 0 4");
+    l.children("of an AND of 8", &wide(), 8, "CHILDREN 0 1 2 3 4 5 6 7");
+    l.children("of an OR of 8", &wide(), 9, "CHILDREN 0 1 2 3 4 5 6 7");
+    l.children("of an AND of 5", &fans(), 11, "CHILDREN 0 1 2 3 4");
+    l.children("of gate 1023 of the chain", &chain(1024), 1023, "CHILDREN 1022");
+    l.children("of gate 256 of a chain of 300 gates", &chain(300), 256, "CHILDREN 255");
+    l.children("of gate 257 of a chain of 300 gates", &chain(300), 257, "CHILDREN 256");
+    l.children("of gate 300 of a chain of 300 gates", &chain(300), 300, "CHILDREN");
+    l.children("of the only gate", &inputs(1, &[]), 0, "CHILDREN");
+
+    // A map that Check declines, for each number.
+    l.children("of a map of no bytes", &[], 0, "CHILDREN");
+    l.children("of a map declined with 1", &adder[..11], 3, "CHILDREN");
+    l.children("of a map declined with 2", &with16(&adder, 2, 0), 3, "CHILDREN");
+    l.children("of a map declined with 3", &adder[..67], 3, "CHILDREN");
+    l.children("of a map declined with 4", &with(&adder, 40, 5), 3, "CHILDREN");
+    l.children("of a map declined with 5", &with(&adder, 42, 7), 3, "CHILDREN");
+    l.children("of a map declined with 6", &with(&adder, 62, 7), 3, "CHILDREN");
+    l.children("of a map declined with 7", &with(&adder, 66, 2), 3, "CHILDREN");
+    l.children("of a map declined with 8", &map(&ADDER, &[(5, 1)]), 3, "CHILDREN");
+}
+
+fn fixed_evaluate(l: &mut List) {
+    let adder = adder();
+
+    // The adder, all rows. The code (7 = 1) doesn't matter to Evaluate.
+    for (row, values) in [
+        ("000", "00000000"),
+        ("001", "00100010"),
+        ("010", "01010010"),
+        ("011", "01110101"),
+        ("100", "10010010"),
+        ("101", "10110101"),
+        ("110", "11001001"),
+        ("111", "11101011"),
+    ] {
+        l.evaluate(&format!("adder row {row}, room exact"), &adder, &digits(row), 8, &done(values, 0));
+    }
+    l.evaluate("adder row 101, one byte of surplus", &adder, &digits("101"), 9, &done("10110101", 1));
+    l.evaluate("adder row 110, surplus of 92", &adder, &digits("110"), 100, &done("11001001", 92));
+    l.evaluate("adder row 000, the largest room", &adder, &digits("000"), 2048, &done("00000000", 2040));
+    l.evaluate("adder without codes", &map(&ADDER, &[]), &digits("011"), 8, &done("01110101", 0));
+    l.evaluate("adder with code 7 = 0 not shown", &map(&ADDER, &[(7, 0)]), &digits("011"), 8, &done("01110101", 0));
+
+    // Inputs that stand after other gates.
+    let mixed = mixed();
+    l.evaluate("inputs after other gates, row 010", &mixed, &digits("010"), 6, &done("011000", 0));
+    l.evaluate("inputs after other gates, row 101", &mixed, &digits("101"), 6, &done("100011", 0));
+    l.evaluate("inputs after other gates, row 001", &mixed, &digits("001"), 8, &done("010111", 2));
+    l.evaluate("inputs after other gates, row 110", &mixed, &digits("110"), 6, &done("101101", 0));
+
+    // Each kind by itself.
+    let not = map(&[(INPUT, &[]), (NOT, &[0])], &[]);
+    l.evaluate("NOT of 0", &not, &[0], 2, &done("01", 0));
+    l.evaluate("NOT of 1", &not, &[1], 2, &done("10", 0));
+    for (kind, name, values) in [(AND, "AND", "0001"), (OR, "OR", "0111"), (XOR, "XOR", "0110")] {
+        for (row, value) in ["00", "01", "10", "11"].iter().zip(values.chars()) {
+            l.evaluate(&format!("{name} of {row}"), &over(2, kind), &digits(row), 3, &done(&format!("{row}{value}"), 0));
+        }
+    }
+    l.evaluate("one input at 0", &inputs(1, &[]), &[0], 1, &done("0", 0));
+    l.evaluate("one input at 1", &inputs(1, &[]), &[1], 1, &done("1", 0));
+    l.evaluate("one input, coded 1, at 0", &inputs(1, &[(0, 1)]), &[0], 1, &done("0", 0));
+
+    // AND of 8 and OR of 8.
+    let wide = wide();
+    l.evaluate("AND and OR of 8, all 0", &wide, &[0; 8], 10, &done("00000000 0 0", 0));
+    l.evaluate("AND and OR of 8, all 1", &wide, &[1; 8], 10, &done("11111111 1 1", 0));
+    for row in ["10000000", "01000000", "00100000", "00010000", "00001000", "00000100", "00000010", "00000001"] {
+        l.evaluate(&format!("AND and OR of 8, row {row}"), &wide, &digits(row), 10, &done(&format!("{row} 0 1"), 0));
+    }
+    for row in ["01111111", "10111111", "11011111", "11101111", "11110111", "11111011", "11111101", "11111110"] {
+        l.evaluate(&format!("AND and OR of 8, row {row}"), &wide, &digits(row), 10, &done(&format!("{row} 0 1"), 0));
+    }
+    let fans = fans();
+    l.evaluate("fan-ins 2 to 8, row 00000001", &fans, &digits("00000001"), 22, &done("00000001 0000000 0000001", 0));
+    l.evaluate("fan-ins 2 to 8, row 11110111", &fans, &digits("11110111"), 22, &done("11110111 1110000 1111111", 0));
+    l.evaluate("fan-ins 2 to 8, row 00001000", &fans, &digits("00001000"), 22, &done("00001000 0000000 0001111", 0));
+
+    // Large maps.
+    l.evaluate("chain of 1,024 gates, row 0", &chain(1024), &[0], 1024, &done(&"01".repeat(512), 0));
+    l.evaluate("chain of 300 gates, row 1, surplus", &chain(300), &[1], 306, &done(&"10".repeat(150), 6));
+    l.evaluate("gives 14, chain of 300 gates and memory of 299 bytes", &chain(300), &[0], 299, &declined(14, 299));
+    l.evaluate("gives 14, chain of 300 gates and memory of 44 bytes (low byte)", &chain(300), &[0], 44, &declined(14, 44));
+    l.evaluate("1,024 inputs", &inputs(1024, &[]), &digits(&"0110".repeat(256)), 1024, &done(&"0110".repeat(256), 0));
+    l.evaluate("gives 9, 259 bytes for 260 inputs", &inputs(260, &[]), &[1; 259], 260, &declined(9, 260));
+    l.evaluate("gives 9, 261 bytes for 260 inputs", &inputs(260, &[]), &[1; 261], 260, &declined(9, 260));
+    l.evaluate("gives 9, 4 bytes for 260 inputs (low byte)", &inputs(260, &[]), &[1; 4], 260, &declined(9, 260));
+    l.evaluate("gives 10, last of 260 bytes", &inputs(260, &[]), &[vec![1; 259], vec![2]].concat(), 260, &declined(10, 260));
+
+    // Each number, with patterned memory.
+    let row = digits("101");
+    l.evaluate("gives 1, empty map", &[], &row, 8, &declined(1, 8));
+    l.evaluate("gives 1, empty map and no memory", &[], &[], 0, &declined(1, 0));
+    l.evaluate("gives 1, 11 bytes", &adder[..11], &row, 8, &declined(1, 8));
+    l.evaluate("gives 2, 0 gates", &header([12, 0, 12, 0, 12, 0]), &[], 8, &declined(2, 8));
+    l.evaluate("gives 2, 0 gates and no memory", &header([12, 0, 12, 0, 12, 0]), &[], 0, &declined(2, 0));
+    l.evaluate("gives 2, 1,025 gates", &with16(&adder, 2, 1025), &row, 8, &declined(2, 8));
+    l.evaluate("gives 3, one byte too long", &[&adder[..], &[0]].concat(), &row, 8, &declined(3, 8));
+    l.evaluate("gives 3, wrapped third offset", &[header([12, 1, 16, 32768, 16, 0]), vec![0; 4]].concat(), &[1], 4, &declined(3, 4));
+    l.evaluate("gives 4, kind 5 at the last gate", &with(&adder, 40, 5), &row, 8, &declined(4, 8));
+    l.evaluate("gives 4, fan-in 9", &over(9, OR), &[1; 9], 10, &declined(4, 10));
+    l.evaluate("gives 5, position wrong at the last gate", &with(&adder, 42, 7), &row, 8, &declined(5, 8));
+    l.evaluate("gives 6, child equal to its gate", &with(&adder, 62, 7), &row, 8, &declined(6, 8));
+    l.evaluate("gives 7, zero byte 1", &with(&adder, 67, 1), &row, 8, &declined(7, 8));
+    l.evaluate("gives 8, coded child", &map(&ADDER, &[(5, 1)]), &row, 8, &declined(8, 8));
+    l.evaluate("gives 9, empty row", &adder, &[], 8, &declined(9, 8));
+    l.evaluate("gives 9, two bytes", &adder, &digits("10"), 8, &declined(9, 8));
+    l.evaluate("gives 9, four bytes", &adder, &digits("1010"), 8, &declined(9, 8));
+    l.evaluate("gives 9, a configuration for a row", &adder, &digits("11001001"), 8, &declined(9, 8));
+    l.evaluate("gives 10, first byte 2", &adder, &[2, 0, 0], 8, &declined(10, 8));
+    l.evaluate("gives 10, last byte 255", &adder, &[1, 0, 255], 12, &declined(10, 12));
+    l.evaluate("gives 14, no memory", &adder, &row, 0, &declined(14, 0));
+    l.evaluate("gives 14, memory of 1 byte", &adder, &row, 1, &declined(14, 1));
+    l.evaluate("gives 14, memory of 7 bytes", &adder, &row, 7, &declined(14, 7));
+    l.evaluate("gives 14, memory for the inputs only", &mixed, &row, 3, &declined(14, 3));
+    l.evaluate("gives 14, one input and no memory", &inputs(1, &[]), &[0], 0, &declined(14, 0));
+}
+
+fn fixed_mark(l: &mut List) {
+    let adder = adder();
+    l.mark("configuration A (P12)", &adder, &digits("00110101"), "NO");
+    l.mark("configuration B", &adder, &digits("11111001"), "NO");
+    l.mark("configuration C", &adder, &digits("00100001"), "NO");
+    l.mark("adder, row 011", &adder, &digits("01110101"), "YES");
+    l.mark("adder, row 101", &adder, &digits("10110101"), "YES");
+    l.mark("adder, row 110", &adder, &digits("11001001"), "YES");
+    l.mark("adder, row 111", &adder, &digits("11101011"), "YES");
+    l.mark("adder, row 000 obeys the gates and not the code", &adder, &digits("00000000"), "NO");
+    l.mark("adder, row 100 obeys the gates and not the code", &adder, &digits("10010010"), "NO");
+    l.mark("adder, code 7 = 0, row 000", &map(&ADDER, &[(7, 0)]), &digits("00000000"), "YES");
+    l.mark("adder, code 7 = 0, row 110", &map(&ADDER, &[(7, 0)]), &digits("11001001"), "NO");
+    l.mark("adder without codes, row 000", &map(&ADDER, &[]), &digits("00000000"), "YES");
+    l.mark("adder without codes, row 110", &map(&ADDER, &[]), &digits("11001001"), "YES");
+    l.mark("adder without codes, configuration A", &map(&ADDER, &[]), &digits("00110101"), "NO");
+    l.mark("adder with two codes, both kept", &map(&ADDER, &[(6, 0), (7, 1)]), &digits("11001001"), "YES");
+    l.mark("adder with two codes, the first broken", &map(&ADDER, &[(6, 0), (7, 1)]), &digits("11101011"), "NO");
+    l.mark("adder with two codes, the second broken", &map(&ADDER, &[(6, 0), (7, 1)]), &digits("00000000"), "NO");
+    for (gate, configuration) in [
+        "01001001", "10001001", "11101001", "11011001", "11000001", "11001101", "11001011", "11001000",
+    ]
+    .iter()
+    .enumerate()
+    {
+        l.mark(&format!("adder, row 110 with gate {gate} turned"), &adder, &digits(configuration), "NO");
+    }
+    let mixed = mixed();
+    l.mark("inputs after other gates, row 010", &mixed, &digits("011000"), "YES");
+    l.mark("inputs after other gates, row 101", &mixed, &digits("100011"), "YES");
+    l.mark("inputs after other gates, NOT wrong", &mixed, &digits("001100"), "NO");
+    l.mark("one input, no code, at 0", &inputs(1, &[]), &[0], "YES");
+    l.mark("one input, no code, at 1", &inputs(1, &[]), &[1], "YES");
+    l.mark("one input, code 1, at 1", &inputs(1, &[(0, 1)]), &[1], "YES");
+    l.mark("one input, code 1, at 0", &inputs(1, &[(0, 1)]), &[0], "NO");
+    l.mark("one input, code 0, at 0", &inputs(1, &[(0, 0)]), &[0], "YES");
+    l.mark("one input, code 0, at 1", &inputs(1, &[(0, 0)]), &[1], "NO");
+    let p9 = map(&[(INPUT, &[]), (NOT, &[0]), (AND, &[0, 1])], &[(2, 1)]);
+    l.mark("P9's map can't be satisfied, 0 1 0", &p9, &digits("010"), "NO");
+    l.mark("P9's map can't be satisfied, 1 1 1", &p9, &digits("111"), "NO");
+    let wide = wide();
+    l.mark("AND and OR of 8, all 1", &wide, &digits("1111111111"), "YES");
+    l.mark("AND of 8 at 1 with the last child 0", &wide, &digits("1111111011"), "NO");
+    l.mark("OR of 8 at 0 with the last child 1", &wide, &digits("0000000100"), "NO");
+    l.mark("OR of 8 at 1 with all children 0", &wide, &digits("0000000001"), "NO");
+    l.mark("AND of 8 at 0 with all children 1", &wide, &digits("1111111101"), "NO");
+    l.mark("XOR of 1 1 at 1", &over(2, XOR), &digits("111"), "NO");
+    l.mark("XOR of 1 1 at 0", &over(2, XOR), &digits("110"), "YES");
+    let coded: Vec<(u16, u8)> = (0..1024).map(|g| (g, (g % 2) as u8)).collect();
+    l.mark("300 coded inputs, all kept", &inputs(300, &coded[..300]), &digits(&"01".repeat(150)), "YES");
+    l.mark("300 coded inputs, gate 256 broken", &inputs(300, &coded[..300]), &digits(&format!("{}11{}", "01".repeat(128), "01".repeat(21))), "NO");
+    l.mark("1,024 coded inputs, the last broken", &inputs(1024, &coded), &digits(&format!("{}00", "01".repeat(511))), "NO");
+    l.mark("chain of 1,024 gates, code kept", &chain(1024), &digits(&"01".repeat(512)), "YES");
+    l.mark("chain of 300 gates, code broken", &chain(300), &digits(&"10".repeat(150)), "NO");
+    l.mark("chain of 300 gates, only the last two wrong", &chain(300), &digits(&format!("{}11", "01".repeat(149))), "NO");
+    l.mark("gives 9, 44 bytes for 300 gates (low byte)", &chain(300), &digits(&"01".repeat(22)), "REFUSED 9");
+
+    // Each number.
+    let key = digits("11001001");
+    l.mark("gives 1, empty map", &[], &[], "REFUSED 1");
+    l.mark("gives 1, 11 bytes", &adder[..11], &key, "REFUSED 1");
+    l.mark("gives 2, 0 gates", &header([12, 0, 12, 0, 12, 0]), &[], "REFUSED 2");
+    l.mark("gives 2, 1,025 gates", &with16(&adder, 2, 1025), &key, "REFUSED 2");
+    l.mark("gives 3, one byte too long", &[&adder[..], &[0]].concat(), &key, "REFUSED 3");
+    l.mark("gives 4, kind 5 at the last gate", &with(&adder, 40, 5), &key, "REFUSED 4");
+    l.mark("gives 5, position wrong at the last gate", &with(&adder, 42, 7), &key, "REFUSED 5");
+    l.mark("gives 6, child equal to its gate", &with(&adder, 62, 7), &key, "REFUSED 6");
+    l.mark("gives 7, value 2", &with(&adder, 66, 2), &key, "REFUSED 7");
+    l.mark("gives 8, coded child", &map(&ADDER, &[(4, 1)]), &key, "REFUSED 8");
+    l.mark("gives 9, empty configuration", &adder, &[], "REFUSED 9");
+    l.mark("gives 9, seven bytes", &adder, &digits("1100100"), "REFUSED 9");
+    l.mark("gives 9, nine bytes", &adder, &digits("110010010"), "REFUSED 9");
+    l.mark("gives 9, a row for a configuration", &adder, &digits("110"), "REFUSED 9");
+    l.mark("gives 10, first byte 2", &adder, &digits("21001001"), "REFUSED 10");
+    l.mark("gives 10, last byte 2 on the coded gate", &adder, &digits("11001002"), "REFUSED 10");
+    l.mark("gives 10, byte 255 after a gate that is wrong", &adder, &[1, 1, 0, 1, 1, 0, 255, 1], "REFUSED 10");
+}
+
+// -------------------------------------------------------------- random cases
+
+/// splitmix64.
+struct Dice(u64);
+
+impl Dice {
+    fn next(&mut self) -> u64 {
+        self.0 = self.0.wrapping_add(0x9e37_79b9_7f4a_7c15);
+        let mut z = self.0;
+        z = (z ^ (z >> 30)).wrapping_mul(0xbf58_476d_1ce4_e5b9);
+        z = (z ^ (z >> 27)).wrapping_mul(0x94d0_49bb_1331_11eb);
+        z ^ (z >> 31)
+    }
+
+    /// A number from 0 to n - 1.
+    fn below(&mut self, n: usize) -> usize {
+        (self.next() % n as u64) as usize
+    }
+
+    fn one_in(&mut self, n: usize) -> bool {
+        self.below(n) == 0
+    }
+
+    fn bit(&mut self) -> u8 {
+        self.below(2) as u8
+    }
+
+    /// A byte that is often small or at an edge.
+    fn byte(&mut self) -> u8 {
+        match self.below(4) {
+            0 => self.below(4) as u8,
+            1 => self.below(12) as u8,
+            2 => [0, 1, 2, 5, 8, 9, 127, 128, 254, 255][self.below(10)],
+            _ => self.below(256) as u8,
+        }
+    }
+}
+
+/// A map that is still parts: gates with children, and codes.
+struct Draft {
+    gates: Vec<(u8, Vec<u16>)>,
+    codes: Vec<(u16, u8)>,
+}
+
+impl Draft {
+    fn bytes(&self) -> Vec<u8> {
+        build(&self.gates, &self.codes)
+    }
+
+    fn inputs(&self) -> usize {
+        self.gates.iter().filter(|(kind, _)| *kind == INPUT).count()
+    }
+
+    fn is_child(&self, gate: u16) -> bool {
+        self.gates.iter().any(|(_, children)| children.contains(&gate))
+    }
+}
+
+/// A gate of some kind at place `number`, allowed there.
+fn random_gate(dice: &mut Dice, number: usize, input_share: usize) -> (u8, Vec<u16>) {
+    if number == 0 || dice.below(100) < input_share {
+        return (INPUT, vec![]);
+    }
+    let kind = if number == 1 { NOT } else { [NOT, AND, AND, OR, OR, XOR][dice.below(6)] };
+    let fan_in = match kind {
+        NOT => 1,
+        XOR => 2,
+        _ => {
+            let most = number.min(8);
+            match dice.below(4) {
+                0 => most,
+                1 => 2,
+                _ => 2 + dice.below(most - 1),
+            }
+        }
+    };
+    let mut children: Vec<u16> = Vec::new();
+    while children.len() < fan_in {
+        // Half of them among the last sixteen gates, so that maps grow deep.
+        let child = if dice.one_in(2) && number > 16 { number - 1 - dice.below(16) } else { dice.below(number) };
+        if !children.contains(&(child as u16)) {
+            children.push(child as u16);
+        }
+    }
+    children.sort();
+    (kind, children)
+}
+
+/// A valid map with the row and the configuration it was made around: the
+/// configuration obeys every gate, and at least three times in four every code.
+fn random_draft(dice: &mut Dice) -> (Draft, Vec<u8>, Vec<u8>) {
+    let size = match dice.below(120) {
+        0 => [1024, 1023, 300 + dice.below(725)][dice.below(3)],
+        1..=3 => 40 + dice.below(200),
+        4..=11 => 1 + dice.below(3),
+        _ => 1 + dice.below(40),
+    };
+    let input_share = [10, 25, 25, 50, 100][dice.below(5)];
+    let mut draft = Draft { gates: Vec::new(), codes: Vec::new() };
+    for number in 0..size {
+        let gate = random_gate(dice, number, input_share);
+        draft.gates.push(gate);
+    }
+    let row: Vec<u8> = (0..draft.inputs()).map(|_| dice.bit()).collect();
+    let mut configuration = vec![0; size];
+    engine::evaluate(&draft.bytes(), &row, &mut configuration).expect("a random draft is a map");
+
+    let mut has_parent = vec![false; size];
+    for (_, children) in &draft.gates {
+        for child in children {
+            has_parent[*child as usize] = true;
+        }
+    }
+    let thin = [1, 1, 2, 4, 1_000_000][dice.below(5)];
+    let shown = dice.below(4) < 3;
+    for gate in 0..size {
+        if !has_parent[gate] && dice.one_in(thin) {
+            let value = if shown { configuration[gate] } else { dice.bit() };
+            draft.codes.push((gate as u16, value));
+        }
+    }
+    (draft, row, configuration)
+}
+
+/// A number near a true one, or anything.
+fn near(dice: &mut Dice, number: usize) -> u16 {
+    let changed = match dice.below(6) {
+        0 => number + 1,
+        1 => number + 65_535,
+        2 => number + 256,
+        3 => 0,
+        4 => 65_535,
+        _ => dice.below(65_536),
+    };
+    (changed % 65_536) as u16
+}
+
+/// Damages a draft: what comes out is framed rightly (tests 1 to 3 hold as far
+/// as sizes allow) and wrong inside, or now and then still right.
+fn damage_draft(dice: &mut Dice, draft: &mut Draft) -> Vec<u8> {
+    let size = draft.gates.len();
+    match dice.below(7) {
+        // A code on any gate, ascent kept: mostly 8.
+        0 | 1 => {
+            for _ in 0..8 {
+                let gate = dice.below(size) as u16;
+                if draft.is_child(gate) || dice.one_in(4) {
+                    draft.codes.retain(|(g, _)| *g != gate);
+                    let value = dice.bit();
+                    draft.codes.push((gate, value));
+                    draft.codes.sort();
+                    break;
+                }
+            }
+        }
+        // A wrong or misplaced code: mostly 7.
+        2 => {
+            let gate = match dice.below(3) {
+                0 => size as u16,
+                1 => near(dice, size),
+                _ => dice.below(size) as u16,
+            };
+            let value = if dice.one_in(3) { dice.byte() } else { dice.bit() };
+            let place = dice.below(draft.codes.len() + 1);
+            draft.codes.insert(place, (gate, value));
+        }
+        // A gate of a kind or fan-in that needn't be allowed: mostly 4 or 6.
+        3 => {
+            let gate = dice.below(size);
+            let fan_in = dice.below(11);
+            let kind = dice.below(6) as u8;
+            let mut children: Vec<u16> = (0..fan_in).map(|_| dice.below(gate + 2) as u16).collect();
+            children.sort();
+            draft.gates[gate] = (kind, children);
+        }
+        // Two gates change places: mostly 6.
+        4 => {
+            let one = dice.below(size);
+            let other = dice.below(size);
+            draft.gates.swap(one, other);
+        }
+        // A child replaced, doubled or moved: mostly 6.
+        5 => {
+            let gate = dice.below(size);
+            let children = &mut draft.gates[gate].1;
+            if !children.is_empty() {
+                let place = dice.below(children.len());
+                match dice.below(3) {
+                    0 => children[place] = gate as u16,
+                    1 => children[place] = children[0],
+                    _ => children.reverse(),
+                }
+            }
+        }
+        // A child too many or too few at the end, framed rightly: 5.
+        _ => {
+            let mut bytes = draft.bytes();
+            let third = bytes[8] as usize + 256 * bytes[9] as usize;
+            let count = bytes[6] as usize + 256 * bytes[7] as usize;
+            if dice.one_in(2) || count == 0 {
+                bytes.insert(third, 0);
+                bytes.insert(third, dice.byte());
+                bytes = with16(&bytes, 6, count as u16 + 1);
+                bytes = with16(&bytes, 8, third as u16 + 2);
+            } else {
+                bytes.drain(third - 2..third);
+                bytes = with16(&bytes, 6, count as u16 - 1);
+                bytes = with16(&bytes, 8, third as u16 - 2);
+            }
+            return bytes;
+        }
+    }
+    draft.bytes()
+}
+
+/// Damages a map's bytes: a few bytes changed, truncated or extended.
+fn damage_bytes(dice: &mut Dice, bytes: &mut Vec<u8>, gates: usize, children: usize) {
+    let second = 12 + 4 * gates;
+    let third = second + 2 * children;
+    match dice.below(16) {
+        0 => {
+            let length = dice.below(14).min(bytes.len());
+            bytes.truncate(length);
+        }
+        1 => {
+            let cut = 1 + dice.below(8.min(bytes.len() - 1));
+            bytes.truncate(bytes.len() - cut);
+        }
+        2 => {
+            for _ in 0..1 + dice.below(8) {
+                let byte = dice.byte();
+                bytes.push(byte);
+            }
+        }
+        3 => {
+            // The gate count.
+            let count = [0, 0, 1025, 1025, 1024, 65_535, gates + 1, gates - 1][dice.below(8)];
+            bytes[2] = (count % 256) as u8;
+            bytes[3] = (count / 256) as u8;
+        }
+        4 => {
+            // One of the six numbers of the contents.
+            let place = 2 * dice.below(6);
+            let number = near(dice, bytes[place] as usize + 256 * bytes[place + 1] as usize);
+            bytes[place] = (number % 256) as u8;
+            bytes[place + 1] = (number / 256) as u8;
+        }
+        kind => {
+            for _ in 0..[1, 1, 1, 2, 3][dice.below(5)] {
+                let (from, to) = match kind {
+                    5 => (0, 12),
+                    6..=9 => (12, second),
+                    10 | 11 => (second, third),
+                    12 | 13 => (third, bytes.len()),
+                    _ => (0, bytes.len()),
+                };
+                let (from, to) = if from < to { (from, to) } else { (0, bytes.len()) };
+                let at = from + dice.below(to - from);
+                bytes[at] = match dice.below(3) {
+                    0 => bytes[at] ^ (1 << dice.below(8)),
+                    1 => bytes[at].wrapping_add([1, 255][dice.below(2)]),
+                    _ => dice.byte(),
+                };
+            }
+        }
+    }
+}
+
+/// Damages a row or configuration: its length, a byte, or only values.
+fn damage_body(dice: &mut Dice, body: &mut Vec<u8>, other_length: usize) {
+    match dice.below(8) {
+        0 => body.push(0),
+        1 => {
+            body.pop();
+        }
+        2 => body.resize(other_length, 0),
+        3 => {
+            // Wrong in length and in a byte: 9 comes first.
+            body.push(2);
+        }
+        _ => {
+            if !body.is_empty() {
+                let at = dice.below(body.len());
+                body[at] = [2, 2, 3, 128, 254, 255][dice.below(6)];
+            }
+        }
+    }
+}
+
+fn random_case(dice: &mut Dice) -> Case {
+    let (mut draft, row, configuration) = random_draft(dice);
+    let gates = draft.gates.len();
+    let inputs = draft.inputs();
+    let op = [b'c', b'c', b'c', b'k', b'k', b'e', b'e', b'e', b'm', b'm', b'm'][dice.below(11)];
+
+    let children = draft.gates.iter().map(|(_, children)| children.len()).sum();
+    let map = match dice.below(100) {
+        0..=54 => draft.bytes(),
+        55..=74 => damage_draft(dice, &mut draft),
+        _ => {
+            let mut bytes = draft.bytes();
+            damage_bytes(dice, &mut bytes, gates, children);
+            bytes
+        }
+    };
+
+    let mut room = 0;
+    let body = match op {
+        b'c' => vec![],
+        b'k' => {
+            let gate = match dice.below(8) {
+                0 => gates as u16,
+                1 => near(dice, gates),
+                _ => dice.below(gates) as u16,
+            };
+            vec![(gate % 256) as u8, (gate / 256) as u8]
+        }
+        b'e' => {
+            room = match dice.below(10) {
+                0 => gates - 1,
+                1 => dice.below(gates + 1),
+                2 => gates + 1 + dice.below(40),
+                3 => gates + 1,
+                _ => gates,
+            };
+            let mut body = row;
+            if dice.one_in(4) {
+                damage_body(dice, &mut body, gates);
+            }
+            body
+        }
+        _ => {
+            let mut body = configuration;
+            match dice.below(8) {
+                0 | 1 => damage_body(dice, &mut body, inputs),
+                2 | 3 => {
+                    // Values only: mostly NO, YES where an input stood alone.
+                    let at = dice.below(body.len());
+                    body[at] = 1 - body[at];
+                }
+                4 => body = (0..gates).map(|_| dice.bit()).collect(),
+                _ => {}
+            }
+            body
+        }
+    };
+    Case { op, map, body, room }
+}
+
+/// At most n random cases from a seed; fewer where the next one would take the
+/// case file past 262,144 bytes.
+pub fn random(seed: u64, n: usize) -> Vec<Case> {
+    let mut dice = Dice(seed);
+    let mut cases = Vec::new();
+    let mut total = 0;
+    for _ in 0..n {
+        let case = random_case(&mut dice);
+        if total + case.size() > FILE_LIMIT {
+            break;
+        }
+        total += case.size();
+        cases.push(case);
+    }
+    cases
+}

@@ -1,0 +1,391 @@
+//! The engine "by other hands": check, children, evaluate and mark, written
+//! straight from document 01 and from nothing else.
+//!
+//! It is slow and plain on purpose. Every offset, count and length is a whole
+//! number (u64) that cannot wrap for any map of up to 65,535 bytes, and every
+//! numbered test is a function of its own that runs over all it concerns
+//! before the next one is asked.
+
+/// "Kinds: 0 input, 1 NOT, 2 AND, 3 OR, 4 XOR."
+pub const INPUT: u8 = 0;
+pub const NOT: u8 = 1;
+pub const AND: u8 = 2;
+pub const OR: u8 = 3;
+pub const XOR: u8 = 4;
+
+/// "**Check** returns counts of gates, inputs, children and codes."
+#[derive(Debug, Clone, Copy, PartialEq, Eq)]
+pub struct Counts {
+    pub gates: u64,
+    pub inputs: u64,
+    pub children: u64,
+    pub codes: u64,
+}
+
+/// "The contents are six u16: offset and count of gates, offset and count of
+/// children, offset and count of codes."
+struct Contents {
+    gates_at: u64,
+    gates: u64,
+    children_at: u64,
+    children: u64,
+    codes_at: u64,
+    codes: u64,
+}
+
+/// "Gate record, 4 bytes: kind, fan-in, first child position (u16)."
+struct GateRecord {
+    kind: u8,
+    fan_in: u64,
+    first: u64,
+}
+
+/// "Code record, 4 bytes: gate (u16), value 0 or 1, and a zero byte."
+struct CodeRecord {
+    gate: u64,
+    value: u8,
+    zero: u8,
+}
+
+/// "All numbers are unsigned, little-endian [...]; u16 is two bytes."
+fn u16_at(bytes: &[u8], at: u64) -> u64 {
+    let low = bytes[at as usize] as u64;
+    let high = bytes[at as usize + 1] as u64;
+    low + 256 * high
+}
+
+/// "A map is a lent byte string with its table of contents first."
+/// Only asked for maps of at least 12 bytes.
+fn contents(map: &[u8]) -> Contents {
+    Contents {
+        gates_at: u16_at(map, 0),
+        gates: u16_at(map, 2),
+        children_at: u16_at(map, 4),
+        children: u16_at(map, 6),
+        codes_at: u16_at(map, 8),
+        codes: u16_at(map, 10),
+    }
+}
+
+/// The gate records in order. Only asked once tests 1 to 3 are passed.
+fn gate_records(map: &[u8]) -> Vec<GateRecord> {
+    let c = contents(map);
+    let mut list = Vec::new();
+    for g in 0..c.gates {
+        let at = c.gates_at + 4 * g;
+        list.push(GateRecord {
+            kind: map[at as usize],
+            fan_in: map[at as usize + 1] as u64,
+            first: u16_at(map, at + 2),
+        });
+    }
+    list
+}
+
+/// "Child: u16, the number of a gate, counted from 0." The children of all
+/// gates in order. Only asked once tests 1 to 3 are passed.
+fn child_records(map: &[u8]) -> Vec<u64> {
+    let c = contents(map);
+    let mut list = Vec::new();
+    for p in 0..c.children {
+        list.push(u16_at(map, c.children_at + 2 * p));
+    }
+    list
+}
+
+/// The code records in order. Only asked once tests 1 to 3 are passed.
+fn code_records(map: &[u8]) -> Vec<CodeRecord> {
+    let c = contents(map);
+    let mut list = Vec::new();
+    for k in 0..c.codes {
+        let at = c.codes_at + 4 * k;
+        list.push(CodeRecord {
+            gate: u16_at(map, at),
+            value: map[at as usize + 2],
+            zero: map[at as usize + 3],
+        });
+    }
+    list
+}
+
+/// "1. The map is shorter than 12 bytes."
+fn fails_1(map: &[u8]) -> bool {
+    map.len() < 12
+}
+
+/// "2. It has 0 gates or more than 1,024."
+fn fails_2(map: &[u8]) -> bool {
+    let c = contents(map);
+    c.gates == 0 || c.gates > 1024
+}
+
+/// "3. An offset or the length isn't what the counts give." with "the offsets
+/// are 12, 12 + 4 × gates, and that plus 2 × children; the length is the last
+/// offset plus 4 × codes."
+fn fails_3(map: &[u8]) -> bool {
+    let c = contents(map);
+    let first = 12;
+    let second = 12 + 4 * c.gates;
+    let third = second + 2 * c.children;
+    let length = third + 4 * c.codes;
+    c.gates_at != first
+        || c.children_at != second
+        || c.codes_at != third
+        || map.len() as u64 != length
+}
+
+/// "Fan-in: 0 for an input, 1 for NOT, 2 for XOR, 2 to 8 for AND and OR."
+fn fan_in_allowed(kind: u8, fan_in: u64) -> bool {
+    match kind {
+        INPUT => fan_in == 0,
+        NOT => fan_in == 1,
+        XOR => fan_in == 2,
+        AND | OR => 2 <= fan_in && fan_in <= 8,
+        _ => false,
+    }
+}
+
+/// "4. A kind is above 4 or a fan-in isn't allowed for its kind."
+fn fails_4(map: &[u8]) -> bool {
+    for gate in gate_records(map) {
+        if gate.kind > 4 {
+            return true;
+        }
+        if !fan_in_allowed(gate.kind, gate.fan_in) {
+            return true;
+        }
+    }
+    false
+}
+
+/// "5. A first child position or the child count is wrong." with "The first
+/// child position is the sum of all earlier fan-ins, for inputs too; the total
+/// of all fan-ins is the child count."
+fn fails_5(map: &[u8]) -> bool {
+    let mut sum = 0;
+    for gate in gate_records(map) {
+        if gate.first != sum {
+            return true;
+        }
+        sum += gate.fan_in;
+    }
+    contents(map).children != sum
+}
+
+/// "6. A child isn't below its gate or doesn't ascend." with "It is below its
+/// parent's number, and a gate's children strictly ascend."
+/// Only asked once test 5 is passed, so every gate's stretch exists.
+fn fails_6(map: &[u8]) -> bool {
+    let children = child_records(map);
+    for (number, gate) in gate_records(map).iter().enumerate() {
+        let mut before: Option<u64> = None;
+        for place in gate.first..gate.first + gate.fan_in {
+            let child = children[place as usize];
+            if child >= number as u64 {
+                return true;
+            }
+            if let Some(earlier) = before {
+                if child <= earlier {
+                    return true;
+                }
+            }
+            before = Some(child);
+        }
+    }
+    false
+}
+
+/// "7. A code's gate is past the last, doesn't ascend, or its value or zero
+/// byte is wrong." with "Codes strictly ascend by gate."
+fn fails_7(map: &[u8]) -> bool {
+    let gates = contents(map).gates;
+    let mut before: Option<u64> = None;
+    for code in code_records(map) {
+        if code.gate >= gates {
+            return true;
+        }
+        if let Some(earlier) = before {
+            if code.gate <= earlier {
+                return true;
+            }
+        }
+        if code.value > 1 {
+            return true;
+        }
+        if code.zero != 0 {
+            return true;
+        }
+        before = Some(code.gate);
+    }
+    false
+}
+
+/// "8. A coded gate is some gate's child." with "A coded gate is nobody's
+/// child."
+fn fails_8(map: &[u8]) -> bool {
+    let children = child_records(map);
+    for code in code_records(map) {
+        if children.contains(&code.gate) {
+            return true;
+        }
+    }
+    false
+}
+
+/// "**Check** returns counts of gates, inputs, children and codes." and "Each
+/// test runs over all it concerns before the next. A call declines on these
+/// conditions only, with the first that holds".
+pub fn check(map: &[u8]) -> Result<Counts, u8> {
+    if fails_1(map) {
+        return Err(1);
+    }
+    if fails_2(map) {
+        return Err(2);
+    }
+    if fails_3(map) {
+        return Err(3);
+    }
+    if fails_4(map) {
+        return Err(4);
+    }
+    if fails_5(map) {
+        return Err(5);
+    }
+    if fails_6(map) {
+        return Err(6);
+    }
+    if fails_7(map) {
+        return Err(7);
+    }
+    if fails_8(map) {
+        return Err(8);
+    }
+    let c = contents(map);
+    let mut inputs = 0;
+    for gate in gate_records(map) {
+        if gate.kind == INPUT {
+            inputs += 1;
+        }
+    }
+    Ok(Counts {
+        gates: c.gates,
+        inputs,
+        children: c.children,
+        codes: c.codes,
+    })
+}
+
+/// "**Children** hands back the stretch of the lent map that holds a gate's
+/// children, no copy; it is empty for an input, a gate number past the end or
+/// a map that Check declines, and Children gives no number."
+pub fn children(map: &[u8], gate: u16) -> &[u8] {
+    if check(map).is_err() {
+        return &[];
+    }
+    let c = contents(map);
+    if gate as u64 >= c.gates {
+        return &[];
+    }
+    let record = &gate_records(map)[gate as usize];
+    let from = c.children_at + 2 * record.first;
+    let to = from + 2 * record.fan_in;
+    &map[from as usize..to as usize]
+}
+
+/// "NOT, AND, OR and XOR mean what 001 says." Read here in their usual sense:
+/// NOT is 1 iff its child is 0, AND iff all children are 1, OR iff some child
+/// is 1, XOR iff its two children differ.
+fn given(kind: u8, values: &[u8]) -> u8 {
+    let yes = match kind {
+        NOT => values[0] == 0,
+        AND => values.iter().all(|v| *v == 1),
+        OR => values.iter().any(|v| *v == 1),
+        XOR => values[0] != values[1],
+        _ => panic!("an input's children give nothing"),
+    };
+    if yes {
+        1
+    } else {
+        0
+    }
+}
+
+/// The values that a gate's children have in `values`, in child order.
+fn child_values_of(gate: &GateRecord, all_children: &[u64], values: &[u8]) -> Vec<u8> {
+    let mut list = Vec::new();
+    for place in gate.first..gate.first + gate.fan_in {
+        list.push(values[all_children[place as usize] as usize]);
+    }
+    list
+}
+
+/// "10. It has a byte above 1."
+fn fails_10(bytes: &[u8]) -> bool {
+    bytes.iter().any(|b| *b > 1)
+}
+
+/// "**Evaluate** takes a row and writes the value of every gate." with "A row
+/// is one byte 0 or 1 for each input, by gate number."; "9. The row or
+/// configuration has the wrong length.", "10. It has a byte above 1.", "14.
+/// Output, work or answer memory is shorter than the gate count."; a declined
+/// call "leaves all lent memory untouched", and of longer memory "the surplus
+/// is never touched."
+pub fn evaluate(map: &[u8], row: &[u8], output: &mut [u8]) -> Result<(), u8> {
+    let counts = check(map)?;
+    if row.len() as u64 != counts.inputs {
+        return Err(9);
+    }
+    if fails_10(row) {
+        return Err(10);
+    }
+    if (output.len() as u64) < counts.gates {
+        return Err(14);
+    }
+    let all_children = child_records(map);
+    let mut values: Vec<u8> = Vec::new();
+    let mut inputs_seen = 0;
+    for gate in gate_records(map) {
+        if gate.kind == INPUT {
+            values.push(row[inputs_seen]);
+            inputs_seen += 1;
+        } else {
+            let below = child_values_of(&gate, &all_children, &values);
+            values.push(given(gate.kind, &below));
+        }
+    }
+    for (place, value) in values.iter().enumerate() {
+        output[place] = *value;
+    }
+    Ok(())
+}
+
+/// "**Mark** takes a configuration and answers yes if and only if every gate
+/// that isn't an input has the value its children give and every coded gate has
+/// its code." with "A configuration is one byte 0 or 1 for each gate."; "9. The
+/// row or configuration has the wrong length.", "10. It has a byte above 1."
+/// Number 11 is "For Survey, Move and Run" and number 14 is about memory that
+/// Mark isn't lent, so neither is asked here.
+pub fn mark(map: &[u8], configuration: &[u8]) -> Result<bool, u8> {
+    let counts = check(map)?;
+    if configuration.len() as u64 != counts.gates {
+        return Err(9);
+    }
+    if fails_10(configuration) {
+        return Err(10);
+    }
+    let all_children = child_records(map);
+    for (number, gate) in gate_records(map).iter().enumerate() {
+        if gate.kind != INPUT {
+            let below = child_values_of(gate, &all_children, configuration);
+            if configuration[number] != given(gate.kind, &below) {
+                return Ok(false);
+            }
+        }
+    }
+    for code in code_records(map) {
+        if configuration[code.gate as usize] != code.value {
+            return Ok(false);
+        }
+    }
+    Ok(true)
+}

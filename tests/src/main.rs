@@ -1,0 +1,228 @@
+//! Case files and expected answers for tests against the engine by other hands.
+//!
+//!     peeriewick-tests fixed            the fixed cases, as a case file
+//!     peeriewick-tests names            their names in order, one per line
+//!     peeriewick-tests expected         their lines, written by hand
+//!     peeriewick-tests random SEED N    at most N random cases, as a case file
+//!     peeriewick-tests answers          reads a case file, prints its lines
+
+mod cases;
+mod engine;
+
+use std::io::{self, Read, Write};
+
+fn run(arguments: &[String]) -> Result<Vec<u8>, String> {
+    let words: Vec<&str> = arguments.iter().map(|a| a.as_str()).collect();
+    match words[..] {
+        ["fixed"] => {
+            let list = cases::fixed();
+            Ok(cases::file(list.iter().map(|named| &named.case)))
+        }
+        ["names"] => {
+            let mut text = String::new();
+            for named in cases::fixed() {
+                text.push_str(&named.name);
+                text.push('\n');
+            }
+            Ok(text.into_bytes())
+        }
+        ["expected"] => {
+            let mut text = String::new();
+            for named in cases::fixed() {
+                text.push_str(&named.expected);
+                text.push('\n');
+            }
+            Ok(text.into_bytes())
+        }
+        ["random", seed, n] => {
+            let seed = seed.parse::<u64>().map_err(|e| format!("SEED: {e}"))?;
+            let n = n.parse::<usize>().map_err(|e| format!("N: {e}"))?;
+            Ok(cases::file(&cases::random(seed, n)))
+        }
+        ["answers"] => {
+            let mut bytes = Vec::new();
+            io::stdin()
+                .read_to_end(&mut bytes)
+                .map_err(|e| format!("standard input: {e}"))?;
+            let mut text = String::new();
+            for case in cases::parse(&bytes)? {
+                text.push_str(&cases::answer(&case));
+                text.push('\n');
+            }
+            Ok(text.into_bytes())
+        }
+        _ => Err(String::from("use: fixed | names | expected | random SEED N | answers")),
+    }
+}
+
+fn main() {
+    let arguments: Vec<String> = std::env::args().skip(1).collect();
+    let outcome = run(&arguments).and_then(|bytes| {
+        let mut out = io::stdout().lock();
+        out.write_all(&bytes)
+            .and_then(|()| out.flush())
+            .map_err(|e| format!("standard output: {e}"))
+    });
+    if let Err(message) = outcome {
+        eprintln!("peeriewick-tests: {message}");
+        std::process::exit(2);
+    }
+}
+
+#[cfg(test)]
+mod tests {
+    use super::cases::*;
+    use super::engine::*;
+    use std::collections::BTreeSet;
+
+    /// The adder of the bench examples, byte by byte.
+    const ADDER: [u8; 68] = [
+        12, 0, 8, 0, 44, 0, 10, 0, 64, 0, 1, 0, // contents
+        0, 0, 0, 0, // 0 input
+        0, 0, 0, 0, // 1 input
+        0, 0, 0, 0, // 2 input
+        4, 2, 0, 0, // 3 XOR(0,1)
+        2, 2, 2, 0, // 4 AND(0,1)
+        2, 2, 4, 0, // 5 AND(2,3)
+        4, 2, 6, 0, // 6 XOR(2,3)
+        3, 2, 8, 0, // 7 OR(4,5)
+        0, 0, 1, 0, 0, 0, 1, 0, 2, 0, 3, 0, 2, 0, 3, 0, 4, 0, 5, 0, // children
+        7, 0, 1, 0, // code 7 = 1
+    ];
+
+    #[test]
+    fn the_adder_is_accepted() {
+        let counts = Counts { gates: 8, inputs: 3, children: 10, codes: 1 };
+        assert_eq!(check(&ADDER), Ok(counts));
+        assert_eq!(adder(), ADDER);
+    }
+
+    #[test]
+    fn p12_mark_of_a_is_no() {
+        assert_eq!(mark(&ADDER, &[0, 0, 1, 1, 0, 1, 0, 1]), Ok(false));
+    }
+
+    #[test]
+    fn rows_of_p3_p4_and_p8_are_keys() {
+        // P3: row 1 0 1; P4: row 0 1 1; P8: answer 1 1 0 0 1 0 0 1, B itself isn't one.
+        for (row, values) in [
+            ([1, 0, 1], [1, 0, 1, 1, 0, 1, 0, 1]),
+            ([0, 1, 1], [0, 1, 1, 1, 0, 1, 0, 1]),
+            ([1, 1, 0], [1, 1, 0, 0, 1, 0, 0, 1]),
+        ] {
+            let mut output = [170; 9];
+            assert_eq!(evaluate(&ADDER, &row, &mut output), Ok(()));
+            assert_eq!(output[..8], values);
+            assert_eq!(output[8], 170);
+            assert_eq!(mark(&ADDER, &values), Ok(true));
+        }
+        assert_eq!(mark(&ADDER, &[1, 1, 1, 1, 1, 0, 0, 1]), Ok(false));
+    }
+
+    #[test]
+    fn declined_calls_leave_the_memory() {
+        let mut output = [170; 7];
+        assert_eq!(evaluate(&ADDER, &[1, 0, 1], &mut output), Err(14));
+        assert_eq!(output, [170; 7]);
+        assert_eq!(evaluate(&ADDER, &[1, 0, 2], &mut output), Err(10));
+        assert_eq!(evaluate(&ADDER, &[1, 0, 2, 0], &mut output), Err(9));
+        assert_eq!(evaluate(&ADDER[..67], &[1, 0, 2, 0], &mut output), Err(3));
+        assert_eq!(output, [170; 7]);
+    }
+
+    #[test]
+    fn children_are_a_stretch_of_the_lent_map() {
+        let stretch = children(&ADDER, 7);
+        assert_eq!(stretch, [4, 0, 5, 0]);
+        assert!(std::ptr::eq(stretch, &ADDER[60..64]));
+        assert!(children(&ADDER, 0).is_empty());
+        assert!(children(&ADDER, 8).is_empty());
+        assert!(children(&ADDER[..67], 7).is_empty());
+    }
+
+    #[test]
+    fn fixed_lines_are_those_written_by_hand() {
+        for named in fixed() {
+            assert_eq!(answer(&named.case), named.expected, "{}", named.name);
+        }
+    }
+
+    /// "gives n" in a name stands for REFUSED n, and no other line is one.
+    #[test]
+    fn fixed_names_say_their_numbers() {
+        for named in fixed() {
+            let said = named.name.split(" gives ").nth(1).map(|rest| {
+                let end = rest.find(',').expect("a comma after the number");
+                format!("REFUSED {}", &rest[..end])
+            });
+            let words: Vec<&str> = named.expected.split(' ').collect();
+            let line = if words[0] == "REFUSED" { Some(words[..2].join(" ")) } else { None };
+            assert_eq!(line, said, "{}", named.name);
+            assert!(!named.name.contains('\n'));
+        }
+    }
+
+    #[test]
+    fn fixed_names_are_unlike_and_the_list_is_small() {
+        let list = fixed();
+        let names: BTreeSet<&str> = list.iter().map(|named| named.name.as_str()).collect();
+        assert_eq!(names.len(), list.len());
+        let bytes = file(list.iter().map(|named| &named.case));
+        println!("{} fixed cases, {} bytes", list.len(), bytes.len());
+        assert!(bytes.len() < 200_000);
+        let back = parse(&bytes).unwrap();
+        assert_eq!(back.len(), list.len());
+        assert!(back.iter().zip(&list).all(|(case, named)| *case == named.case));
+    }
+
+    fn numbers<'a>(lines: impl Iterator<Item = &'a String>) -> BTreeSet<u8> {
+        lines
+            .filter_map(|line| line.strip_prefix("REFUSED "))
+            .map(|rest| rest.split(' ').next().unwrap().parse().unwrap())
+            .collect()
+    }
+
+    #[test]
+    fn fixed_covers_every_number_for_every_op() {
+        let list = fixed();
+        let of = |op: u8| numbers(list.iter().filter(|n| n.case.op == op).map(|n| &n.expected));
+        assert_eq!(of(b'c'), (1..=8).collect());
+        assert_eq!(of(b'e'), (1..=10).chain([14]).collect());
+        assert_eq!(of(b'm'), (1..=10).collect());
+    }
+
+    #[test]
+    fn random_covers_every_number() {
+        let cases = random(1, 500);
+        assert!(cases.len() >= 400, "only {} cases fit", cases.len());
+        let lines: Vec<String> = cases.iter().map(answer).collect();
+        assert_eq!(numbers(lines.iter()), (1..=10).chain([14]).collect());
+        for word in ["OK ", "DONE ", "YES", "NO", "CHILDREN "] {
+            let count = lines.iter().filter(|line| line.starts_with(word)).count();
+            assert!(count >= 15, "{word}: {count}");
+        }
+        let declined = lines.iter().filter(|line| line.starts_with("REFUSED")).count();
+        assert!(2 * declined < cases.len());
+    }
+
+    #[test]
+    fn random_keeps_to_the_format() {
+        for seed in 0..20 {
+            let cases = random(seed, 3000);
+            let bytes = file(&cases);
+            assert!(bytes.len() <= FILE_LIMIT);
+            assert_eq!(parse(&bytes), Ok(cases));
+        }
+        assert_eq!(random(7, 50), random(7, 50));
+        assert_ne!(random(7, 50), random(8, 50));
+    }
+
+    #[test]
+    fn a_case_that_is_cut_off_ends_the_file() {
+        let list = fixed();
+        let bytes = file(list[..3].iter().map(|named| &named.case));
+        assert_eq!(parse(&bytes[..bytes.len() - 1]).unwrap().len(), 2);
+        assert_eq!(parse(&bytes[..6]).unwrap().len(), 0);
+        assert_eq!(parse(&[]).unwrap().len(), 0);
+    }
+}
