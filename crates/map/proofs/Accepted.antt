@@ -1,24 +1,23 @@
 -- What Check's verdict says: the facts of an accepted map, and that its circuit is well formed. Assumes nothing.
-use Prim.Native.Nat.{ℕ, zero, suc, _+_, _-_, _<_, _≤_}
-use mathlib.Core.Path.{_≡_, refl, sym, ap, _∙_}
-use mathlib.Core.Bool.{Bool, true, false, not, true≢false}
+use Prim.Native.Nat.{ℕ, zero, suc, _+_, _-_, _<_}
+use mathlib.Core.Path.{_≡_, sym, _∙_}
+use mathlib.Core.Bool.{true, not, true≢false}
 use mathlib.Core.Logic.{inl, inr}
-use mathlib.Core.List.{List, [], _∷_, _++_, map}
+use mathlib.Core.List.{List, [], _∷_, map}
 use mathlib.Core.List.{List·Memᴰ as In, Memᴰ·of-map as of-map}
 use native.Mathlib.Nat.{le-of-suc-le-suc, eq-or-lt-of-le}
 use native.Mathlib.Omega.{arith}
-use lib.Dec.{eqb, ltb, leb}
+use lib.Dec.{eqb, ltb}
 use lib.ListN.{length, length-map}
 use borrow.Author.Tests.{eqb-true, eqb-false, ltb-true, leb-true, ne-eqb, not-true}
-use Rattle.folds.specs.Folds.{_and_, _or_, allBelow}
+use Rattle.folds.specs.Folds.{_or_}
 use Rattle.folds.proofs.Tests.{which, and-left, and-right, or-past}
 use Rattle.folds.proofs.Loops.{all-at}
 use Rattle.circuit.specs.Tools.{upTo, Rising}
-use Rattle.circuit.specs.Gate.{kindOf, fanInFits}
 use Rattle.circuit.specs.Circuit.{coded, WellFormed}
 use Rattle.circuit.proofs.Lists.{in-upTo, length-upTo, map-append, rising-end}
 use Rattle.map.specs.Map.{gateCount, codeCount, kindByte, fanIn, childAt, codeGate, kidsOf, circuit}
-use Rattle.map.specs.Check.{kindFits, kindTest, childTest, childrenTest, codeTest, freeTest, firstFailed, contentsTests, bodiesTests, mapTests, verdict, IsMap, AcceptedMap, AcceptedMaps}
+use Rattle.map.specs.Check.{kindFits, kindTest, childTest, childrenTest, codeTest, freeTest, firstFailed, contentsTests, bodiesTests, mapTests, verdict, IsMap, AcceptedMaps}
 use Rattle.circuit.proofs.Source001.{gate-zero}
 use Rattle.map.proofs.Laws.{gate-kind, none-failed, contents-passed, contents-some, placed-of, sound-of, passed-before, passes-before, contents-numbered}
 

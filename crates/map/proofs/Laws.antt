@@ -1,7 +1,7 @@
 -- Laws of the definitions of specs/. Assumes nothing.
 use Prim.Native.Nat.{ℕ, zero, suc, _+_, _*_, _-_, _<_, _≤_}
-use mathlib.Core.Path.{_≡_, refl, sym, ap, _∙_}
-use mathlib.Core.Bool.{Bool, true, false, cond, not}
+use mathlib.Core.Path.{_≡_, refl, sym, _∙_}
+use mathlib.Core.Bool.{Bool, true, false, not}
 use mathlib.Core.Logic.{inl, inr}
 use mathlib.Core.List.{List, [], _∷_, _++_}
 use native.Mathlib.Nat.{le-of-suc-le-suc, eq-or-lt-of-le}
@@ -19,7 +19,7 @@ use Rattle.circuit.specs.Gate.{isInput, kindOf}
 use Rattle.circuit.specs.Circuit.{coded}
 use Rattle.circuit.specs.Evaluate.{inputsBefore}
 use Rattle.circuit.proofs.Lists.{place-more}
-use Rattle.map.specs.Map.{gateCount, childCount, codeCount, kindByte, fanIn, firstChild, fanInsBefore, childAt, codesAt, codeGate, codeAmong, circuit}
+use Rattle.map.specs.Map.{gateCount, childCount, codeCount, kindByte, fanIn, firstChild, fanInsBefore, codesAt, codeGate, codeAmong, circuit}
 use Rattle.map.specs.Check.{offsetsTest, positionTest, positionsTest, childTest, childrenTest, codeTest, firstFailed, contentsTests, Shaped, Placed, Sound, CodeMarks}
 
 -- ---- the sum of the fan-ins

@@ -1,16 +1,14 @@
 -- The stretch of a gate's children, from what Children reads. Assumes nothing.
 use Prim.Native.Nat.{ℕ, zero, suc, _+_, _*_, _<_, _≤_}
-use mathlib.Core.Path.{_≡_, refl}
-use mathlib.Core.Bool.{Bool, true, false, false≢true}
+use mathlib.Core.Path.{_≡_}
+use mathlib.Core.Bool.{true, false, false≢true}
 use mathlib.Core.Logic.{inl, inr}
 use mathlib.Core.List.{List}
 use native.Mathlib.Omega.{arith}
-use lib.Dec.{eqb, ltb}
-use lib.ListN.{length, getD, take, drop}
+use lib.ListN.{length, take, drop}
 use lib.Seq.{getD-take, getD-drop}
 use borrow.Author.Tests.{eq-eqb, ne-eqb, eqb-true, le-ltb, lt-ltb, ltb-true}
 use denote.Ref.{RefT}
-use Rattle.folds.specs.Folds.{_and_}
 use Rattle.folds.proofs.Tests.{which, and-left, and-right, and-both, and-first-false, and-second-false}
 use Rattle.circuit.specs.Gate.{isInput, kindOf}
 use Rattle.map.specs.Map.{u16At, gateCount, childrenAt, kindByte, fanIn, firstChild, childAt}

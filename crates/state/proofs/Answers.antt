@@ -1,14 +1,11 @@
 -- The answers of Evaluate and Mark, from their number. Assumes nothing.
-use Prim.Native.Nat.{ℕ, zero, suc, _<_}
-use mathlib.Core.Path.{_≡_, refl, sym, ap, _∙_}
-use mathlib.Core.Bool.{Bool, true, false}
-use mathlib.Core.List.{List, [], _∷_, _++_}
-use native.Mathlib.Omega.{arith}
+use Prim.Native.Nat.{ℕ}
+use mathlib.Core.Path.{_≡_}
+use mathlib.Core.Bool.{true, false}
+use mathlib.Core.List.{List}
 use borrow.Author.Tests.{eq-eqb, ne-eqb}
-use lib.Dec.{eqb}
 use Rattle.circuit.specs.Evaluate.{evaluate, mark}
 use Rattle.map.specs.Map.{circuit}
-use Rattle.map.specs.Check.{firstFailed, mapTests}
 use Rattle.state.specs.declared.Written.the-variants.{Done}
 use Rattle.state.specs.declared.Written.the-variants as written-variants
 use Rattle.state.specs.declared.Marked.the-variants.{Yes, No}

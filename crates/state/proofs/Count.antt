@@ -1,18 +1,18 @@
 -- What a kind makes of how many of its children are at 1: a new kind is a new clause of `gives-count`. Assumes nothing.
-use Prim.Native.Nat.{ℕ, zero, suc, _+_, _%_, _≤_, _<_}
+use Prim.Native.Nat.{ℕ, zero, suc, _+_, _%_, _≤_}
 use mathlib.Core.Path.{_≡_, refl, sym, ap, _∙_}
 use mathlib.Core.Logic.{inl, inr}
 use mathlib.Core.Bool.{Bool, true, false, not}
 use mathlib.Core.List.{List, [], _∷_, _++_, map}
 use native.Mathlib.Omega.{arith}
 use native.Mathlib.Nat.{zero-add}
-use lib.ListN.{length, length-append, length-map}
+use lib.ListN.{length, length-map}
 use lib.Dec.{eqb, ltb, eqb·suc-suc}
 use borrow.Author.Tests.{eqb-true, eqb-false, eq-eqb, ne-eqb, lt-ltb}
 use Rattle.folds.specs.Folds.{_and_, _or_}
 use Rattle.folds.proofs.Tests.{which}
-use Rattle.circuit.specs.Tools.{byte, same, upTo, select}
-use Rattle.circuit.specs.Gate.{kindOf, allOn, someOn, oddOn, gives}
+use Rattle.circuit.specs.Tools.{upTo, select}
+use Rattle.circuit.specs.Gate.{allOn, someOn, oddOn}
 use Rattle.circuit.specs.Circuit.{on, given}
 use Rattle.circuit.proofs.Values.{not-not}
 use Rattle.circuit.proofs.Lists.{length-upTo, map-append, place-more}

@@ -1,17 +1,15 @@
 -- The turn of Evaluate's loop, and the tests. Assumes nothing.
-use Prim.Native.Nat.{ℕ, zero, suc, _+_, _<_, _≤_}
-use mathlib.Core.Path.{_≡_, refl, sym, ap, _∙_}
-use mathlib.Core.Bool.{Bool, true, false, cond}
+use Prim.Native.Nat.{ℕ, suc, _+_, _<_}
+use mathlib.Core.Path.{_≡_, refl, ap}
+use mathlib.Core.Bool.{true, cond}
 use mathlib.Core.Logic.{inl, inr}
 use mathlib.Core.List.{List, [], _∷_, _++_, append-assoc}
-use mathlib.Core.List.{List·Memᴰ as In}
 use native.Mathlib.Omega.{arith}
 use native.Mathlib.Numerals.{add-one}
 use lib.ListN.{length, getD, set, drop, List·getD-append, List·getD-eq-default}
 use lib.Seq.{drop-cons, set-at}
 use lib.Dec.{eqb, leb, ltb}
 use borrow.Author.Tests.{leb-true, ltb-true, ltb-false}
-use Rattle.folds.specs.Folds.{allBelow}
 use Rattle.folds.proofs.Tests.{which}
 use Rattle.folds.proofs.Loops.{all-at}
 use Rattle.circuit.specs.Tools.{byte}

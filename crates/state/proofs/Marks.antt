@@ -1,7 +1,7 @@
 -- Mark, gate by gate and record by record. Assumes nothing.
-use Prim.Native.Nat.{ℕ, _≤_, _<_}
-use mathlib.Core.Path.{_≡_, refl, sym, ap, _∙_}
-use mathlib.Core.Bool.{Bool, true, false}
+use Prim.Native.Nat.{ℕ, _<_}
+use mathlib.Core.Path.{_≡_}
+use mathlib.Core.Bool.{Bool, true}
 use mathlib.Core.List.{List}
 use native.Mathlib.Omega.{arith}
 use lib.Dec.{eqb}
@@ -12,7 +12,7 @@ use Rattle.folds.proofs.Tests.{same-test, and-left, and-right, and-both}
 use Rattle.folds.proofs.Loops.{all-at, all-of}
 use Rattle.circuit.specs.Circuit.{on, justified}
 use Rattle.circuit.specs.Evaluate.{showsCode, mark}
-use Rattle.circuit.proofs.Values.{bit-same, same-true, same-refl}
+use Rattle.circuit.proofs.Values.{bit-same}
 use Rattle.circuit.proofs.Evaluate.{shows-code}
 use Rattle.map.specs.Map.{gateCount, codeCount, codeGate, codeValue, codeAmong, circuit}
 use Rattle.map.specs.Check.{IsMap}

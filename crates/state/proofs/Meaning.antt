@@ -1,26 +1,24 @@
 -- What Evaluate and Mark mean. Assumes nothing.
-use Prim.Native.Nat.{ℕ, suc, _≤_, _<_}
-use mathlib.Core.Path.{_≡_, refl, sym, ap, _∙_}
-use mathlib.Core.Bool.{Bool, true, false, false≢true, true≢false}
-use mathlib.Core.Logic.{inl, inr, _↔_}
-use mathlib.Core.List.{List, [], _∷_, _++_}
-use native.Mathlib.Omega.{arith}
+use Prim.Native.Nat.{ℕ}
+use mathlib.Core.Path.{_≡_, sym, ap, _∙_}
+use mathlib.Core.Bool.{Bool, true, false≢true}
+use mathlib.Core.Logic.{inl, inr}
+use mathlib.Core.List.{List, _++_}
 use lib.Dec.{eqb, leb}
 use lib.ListN.{length, getD, take, drop}
 use lib.Seq.{take-at, drop-at}
-use borrow.Author.Tests.{eqb-true, eqb-false, eq-eqb, le-leb}
-use Rattle.folds.specs.Folds.{allBelow}
+use borrow.Author.Tests.{eqb-true, eq-eqb, le-leb}
 use Rattle.folds.proofs.Tests.{which}
 use Rattle.folds.proofs.Loops.{all-of}
 use Rattle.circuit.specs.Circuit.{Configuration}
-use Rattle.circuit.specs.Evaluate.{inputsBefore, Row, evaluate, mark, Evaluated, Satisfying}
+use Rattle.circuit.specs.Evaluate.{inputsBefore, Row, evaluate, mark}
 use Rattle.circuit.proofs.Evaluate.{evaluate-is, mark-is}
 use Rattle.map.specs.Map.{gateCount, circuit}
 use Rattle.map.specs.Check.{firstFailed, mapTests, verdict}
 use Rattle.map.proofs.Laws.{none-failed, past, no-test, passed-before}
 use Rattle.map.proofs.Accepted.{facts, well-formed}
 use Rattle.map.proofs.Answers.{behind-accepted}
-use Rattle.state.specs.State.{bitsTest, rowTests, configurationTests, over, evaluationBy, evaluation, Wrote, EvaluateWrites, markingBy, marking, MarkSays}
+use Rattle.state.specs.State.{bitsTest, rowTests, configurationTests, over, evaluationBy, evaluation, EvaluateWrites, markingBy, marking, MarkSays}
 use Rattle.state.proofs.Filling.{bits-of}
 
 -- ---- tests behind the map's

@@ -1,7 +1,6 @@
-use mathlib.Core.Path.{_≡_, refl, sym, ap, _∙_}
-use native.Mathlib.Omega.{arith}
+use mathlib.Core.Path.{sym, _∙_}
 use borrow.Author.Tests.{eq-eqb, ne-eqb}
-use Rattle.map.specs.Check.{verdict, says, checked, countsOf}
+use Rattle.map.specs.Check.{says, checked, countsOf}
 use Rattle.map.proofs.Accepted.{facts}
 use borrow.Author.Needs.{needs}
 use Rattle.map.proofs.check.Statement.{statement}
@@ -11,23 +10,16 @@ use Rattle.map.proofs.check.Lts as lts
 use Rattle.map.proofs.decode.counts.Reads as counts-reads
 use Rattle.map.proofs.tests.failed.Reads as failed-reads
 
--- src/lib.rt:24:9
-failed-requires : tie.Need-failed-requires
-failed-requires c κs = search needs
-
--- src/lib.rt:26:9
 returns : tie.Need-returns
 unfolding checked says
 returns c = rw (ne-eqb _ 0 (λ e. c .if1 .taken (c .before .failed .ensures ∙ e)), c .before .failed .ensures)
 
--- src/lib.rt:28:23
 counts-requires : tie.Need-counts-requires
 counts-requires c κs = facts _ (sym (c .before .failed .ensures) ∙ c .if1 .left) .sound .placed .shaped
 
--- src/lib.rt:21:1
 returns-2 : tie.Need-returns-2
 unfolding checked says countsOf
 returns-2 c = rw (eq-eqb _ 0 (sym (c .before .before .failed .ensures) ∙ c .before .if1 .left), c .counts .ensures)
 
 pub check-spec : {M : Type 1} → statement M
-check-spec = tie.close (tie.spec failed-requires returns counts-requires returns-2)
+check-spec = tie.close (tie.spec (λ c κs. search needs) returns counts-requires returns-2)

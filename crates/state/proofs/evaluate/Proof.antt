@@ -1,7 +1,5 @@
 use denote.Ref.{now}
-use Prim.Native.Nat.{ℕ}
-use mathlib.Core.Path.{_≡_, refl, sym, ap, _∙_}
-use native.Mathlib.Omega.{arith}
+use mathlib.Core.Path.{_≡_, sym, ap, _∙_}
 use Rattle.circuit.specs.Evaluate.{inputsBefore}
 use Rattle.map.specs.Map.{circuit}
 use Rattle.map.specs.declared.Counts.{Counts}
@@ -22,37 +20,18 @@ use Rattle.state.proofs.values.evaluate_accepted.Reads as evaluate-acce
 told : (c : tie.After-counts) → (verdict (now (c .before .before .before .before .before .before .args .map)) ≡ 0) × (c .counts .given .0 .0 ≡ countsOf (now (c .before .before .before .before .before .before .args .map)))
 told c = was-accepted _ _ (ap says (sym (c .counts .given .1)) ∙ c .before .before .check .ensures)
 
--- src/lib.rt:26:11
-check-requires : tie.Need-check-requires
-check-requires c κs = search needs
-
--- src/lib.rt:27:26
-enum-known-k : tie.Need-enum-known-k
-enum-known-k c = search needs
-
--- src/lib.rt:28:27
-enum-known-counts : tie.Need-enum-known-counts
-enum-known-counts c = search needs
-
--- src/lib.rt:28:38
 evaluate-accepted-requires : tie.Need-evaluate-accepted-requires
 unfolding countsOf
 evaluate-accepted-requires c κs = let t = told (c .before .before) in
     let m = now (c .before .before .before .before .before .before .before .before .args .map) in
     (facts _ (t .0), (ap (λ (n : Counts). n .gates) (t .1), ap (λ (n : Counts). n .inputs) (t .1) ∙ ap (λ (n : Counts). inputsBefore (circuit m) (n .gates)) (sym (t .1))))
 
--- src/lib.rt:23:1
 returns : tie.Need-returns
 unfolding evaluation
 returns c = let d = was-refused _ _ (ap says (sym (c .before .k .given .1)) ∙ c .before .before .before .check .ensures) in
     let e = behind-declined _ _ (d .1) in
     refused-by _ _ _ _ _ (d .0 ∙ sym e) (λ z. d .1 (sym e ∙ z))
 
--- src/lib.rt:23:1
-same-length : tie.Need-same-length
-same-length c = search needs
-
--- src/lib.rt:23:1
 returns-2 : tie.Need-returns-2
 unfolding evaluation rowEvaluation
 returns-2 c = let t = told (c .before .before .before .before .before) in
@@ -62,10 +41,10 @@ pub evaluate-spec : {M : Type 1} → statement M
 evaluate-spec =
     tie.close
     (tie.spec
-    check-requires
-    enum-known-k
-    enum-known-counts
+    (λ c κs. search needs)
+    (λ c. search needs)
+    (λ c. search needs)
     evaluate-accepted-requires
     returns
-    same-length
+    (λ c. search needs)
     returns-2)

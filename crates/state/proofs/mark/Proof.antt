@@ -1,6 +1,5 @@
 use denote.Ref.{now}
-use Prim.Native.Nat.{ℕ}
-use mathlib.Core.Path.{_≡_, refl, sym, ap, _∙_}
+use mathlib.Core.Path.{_≡_, sym, ap, _∙_}
 use Rattle.map.specs.declared.Counts.{Counts}
 use Rattle.map.specs.Check.{verdict, says, countsOf}
 use Rattle.map.proofs.Accepted.{facts}
@@ -19,32 +18,17 @@ use Rattle.state.proofs.marking.mark_accepted.Reads as mark-accepted-re
 told : (c : tie.After-counts) → (verdict (now (c .before .before .before .before .before .args .map)) ≡ 0) × (c .counts .given .0 .0 ≡ countsOf (now (c .before .before .before .before .before .args .map)))
 told c = was-accepted _ _ (ap says (sym (c .counts .given .1)) ∙ c .before .before .check .ensures)
 
--- src/lib.rt:37:11
-check-requires : tie.Need-check-requires
-check-requires c κs = search needs
-
--- src/lib.rt:38:26
-enum-known-k : tie.Need-enum-known-k
-enum-known-k c = search needs
-
--- src/lib.rt:39:27
-enum-known-counts : tie.Need-enum-known-counts
-enum-known-counts c = search needs
-
--- src/lib.rt:39:38
 mark-accepted-requires : tie.Need-mark-accepted-requires
 unfolding countsOf
 mark-accepted-requires c κs = let t = told (c .before) in
     (facts _ (t .0), (ap (λ (n : Counts). n .gates) (t .1), (ap (λ (n : Counts). n .children) (t .1), ap (λ (n : Counts). n .codes) (t .1))))
 
--- src/lib.rt:34:1
 returns : tie.Need-returns
 unfolding marking
 returns c = let d = was-refused _ _ (ap says (sym (c .before .k .given .1)) ∙ c .before .before .before .check .ensures) in
     let e = behind-declined _ _ (d .1) in
     mark-refused _ _ _ _ (d .0 ∙ sym e) (λ z. d .1 (sym e ∙ z))
 
--- src/lib.rt:34:1
 returns-2 : tie.Need-returns-2
 unfolding marking configurationMarking
 returns-2 c = let t = told (c .before .before) in
@@ -54,9 +38,9 @@ pub mark-spec : {M : Type 1} → statement M
 mark-spec =
     tie.close
     (tie.spec
-    check-requires
-    enum-known-k
-    enum-known-counts
+    (λ c κs. search needs)
+    (λ c. search needs)
+    (λ c. search needs)
     mark-accepted-requires
     returns
     returns-2)

@@ -13,43 +13,18 @@ use Rattle.map.proofs.decode.word.Reads as word-reads
 room : (c : tie.After-word) → c .word .result + c .before .before .args .j < childCount (now (c .before .before .args .map))
 room c = omega (arith, c .before .before .pre .0 .within (c .before .before .args .g) (omega arith))
 
--- src/decode.rt:32:32
-mul-word : tie.Need-mul-word
-mul-word c = search needs
-
--- src/decode.rt:32:27
-add-word : tie.Need-add-word
-add-word c = search needs
-
--- src/decode.rt:32:9
-word-requires : tie.Need-word-requires
-word-requires c κs = search needs
-
--- src/decode.rt:33:20
-mul-word-2 : tie.Need-mul-word-2
-mul-word-2 c = search needs
-
--- src/decode.rt:33:15
-add-word-2 : tie.Need-add-word-2
-add-word-2 c = search needs
-
--- src/decode.rt:33:37
 add-word-3 : tie.Need-add-word-3
 add-word-3 c = omega (arith, room c)
 
--- src/decode.rt:33:32
 mul-word-3 : tie.Need-mul-word-3
 mul-word-3 c = omega (arith, room c)
 
--- src/decode.rt:33:15
 add-word-4 : tie.Need-add-word-4
 add-word-4 c = omega (arith, room c)
 
--- src/decode.rt:33:5
 word-requires-2 : tie.Need-word-requires-2
 word-requires-2 c κs = omega (arith, room c)
 
--- src/decode.rt:28:1
 returns : tie.Need-returns
 returns c = (cc, search needs)
 
@@ -57,11 +32,11 @@ pub child-spec : {M : Type 1} → statement M
 child-spec =
     tie.close
     (tie.spec
-    mul-word
-    add-word
-    word-requires
-    mul-word-2
-    add-word-2
+    (λ c. search needs)
+    (λ c. search needs)
+    (λ c κs. search needs)
+    (λ c. search needs)
+    (λ c. search needs)
     add-word-3
     mul-word-3
     add-word-4

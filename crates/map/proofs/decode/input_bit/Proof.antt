@@ -1,18 +1,13 @@
-use Prim.Native.Nat.{ℕ, zero, suc, _≤_}
-use mathlib.Core.Path.{_≡_, refl}
 use native.Mathlib.Omega.{arith}
 use Rattle.map.proofs.Laws.{gate-kind}
-use borrow.Author.Needs.{needs}
 use Rattle.map.proofs.decode.input_bit.Statement.{statement}
 use Rattle.map.proofs.decode.input_bit.Tie as tie
 use Rattle.map.proofs.decode.input_bit.Reads as reads
 use Rattle.map.proofs.decode.input_bit.Lts as lts
 
--- src/decode.rt:45:1
 returns : tie.Need-returns
 returns c = (rw (c .if1 .taken), omega arith)
 
--- src/decode.rt:45:1
 returns-2 : tie.Need-returns-2
 returns-2 c = (rw (gate-kind _ (c .if1 .left)), omega arith)
 

@@ -1,7 +1,6 @@
 use Prim.Native.Nat.{_-_, _≤_}
 use mathlib.Core.Path.{_≡_}
-use mathlib.Core.Bool.{Bool, true}
-use native.Mathlib.Omega.{arith}
+use mathlib.Core.Bool.{true}
 use Rattle.folds.specs.Folds.{allBelow}
 use Rattle.folds.proofs.Loops.{loops-of}
 use Rattle.map.specs.Check.{childrenTest}
@@ -18,31 +17,15 @@ Inv-loop map gates g₀ g = (g ≤ gates) × (allBelow g (childrenTest map) ≡ 
 abbrev μ-loop : tie.MeasureT-loop
 μ-loop map gates g₀ g = gates - g
 
--- src/tests.rt:121:5
 loop-holds : tie.Need-loop-holds Inv-loop μ-loop
 loop-holds c = search (needs, loops-of)
 
--- src/tests.rt:122:13
-children-ok-requires : tie.Need-children-ok-requires Inv-loop μ-loop
-children-ok-requires c κs = search needs
-
--- src/tests.rt:123:13
 returns : tie.Need-returns Inv-loop μ-loop
 returns c = search (needs, loops-of)
 
--- src/tests.rt:125:9
-add-g : tie.Need-add-g Inv-loop μ-loop
-add-g c = search needs
-
--- src/tests.rt:121:5
-loop-less : tie.Need-loop-less Inv-loop μ-loop
-loop-less c = search needs
-
--- src/tests.rt:121:5
 loop-again : tie.Need-loop-again Inv-loop μ-loop
 loop-again c = search (needs, loops-of)
 
--- src/tests.rt:116:1
 returns-2 : tie.Need-returns-2 Inv-loop μ-loop
 returns-2 c = search (needs, loops-of)
 
@@ -53,9 +36,9 @@ all-children-ok-spec =
     Inv-loop
     μ-loop
     loop-holds
-    children-ok-requires
+    (λ c κs. search needs)
     returns
-    add-g
-    loop-less
+    (λ c. search needs)
+    (λ c. search needs)
     loop-again
     returns-2)

@@ -1,7 +1,6 @@
 use Prim.Native.Nat.{_-_, _≤_}
 use mathlib.Core.Path.{_≡_}
-use mathlib.Core.Bool.{Bool, true}
-use native.Mathlib.Omega.{arith}
+use mathlib.Core.Bool.{true}
 use Rattle.folds.specs.Folds.{allBelow}
 use Rattle.folds.proofs.Loops.{loops-of}
 use Rattle.map.specs.Check.{freeTest}
@@ -18,31 +17,15 @@ Inv-loop map gates marks g₀ g = (g ≤ gates) × (allBelow g (freeTest map) �
 abbrev μ-loop : tie.MeasureT-loop
 μ-loop map gates marks g₀ g = gates - g
 
--- src/tests.rt:214:5
 loop-holds : tie.Need-loop-holds Inv-loop μ-loop
 loop-holds c = search (needs, loops-of)
 
--- src/tests.rt:215:13
-gate-free-requires : tie.Need-gate-free-requires Inv-loop μ-loop
-gate-free-requires c κs = search needs
-
--- src/tests.rt:216:13
 returns : tie.Need-returns Inv-loop μ-loop
 returns c = search (needs, loops-of)
 
--- src/tests.rt:218:9
-add-g : tie.Need-add-g Inv-loop μ-loop
-add-g c = search needs
-
--- src/tests.rt:214:5
-loop-less : tie.Need-loop-less Inv-loop μ-loop
-loop-less c = search needs
-
--- src/tests.rt:214:5
 loop-again : tie.Need-loop-again Inv-loop μ-loop
 loop-again c = search (needs, loops-of)
 
--- src/tests.rt:208:1
 returns-2 : tie.Need-returns-2 Inv-loop μ-loop
 returns-2 c = search (needs, loops-of)
 
@@ -53,9 +36,9 @@ all-free-spec =
     Inv-loop
     μ-loop
     loop-holds
-    gate-free-requires
+    (λ c κs. search needs)
     returns
-    add-g
-    loop-less
+    (λ c. search needs)
+    (λ c. search needs)
     loop-again
     returns-2)

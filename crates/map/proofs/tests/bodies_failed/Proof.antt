@@ -1,11 +1,10 @@
 use denote.Ref.{now}
-use mathlib.Core.Path.{_≡_, refl, sym, _∙_}
-use mathlib.Core.Bool.{Bool, true}
-use native.Mathlib.Omega.{arith}
+use mathlib.Core.Path.{_≡_}
+use mathlib.Core.Bool.{true}
 use Rattle.folds.specs.Folds.{allBelow}
 use Rattle.folds.proofs.Tests.{flag-false, flag-true}
 use Rattle.map.specs.Map.{gateCount, codeCount}
-use Rattle.map.specs.Check.{kindTest, positionsTest, childrenTest, codeTest, freeTest, firstFailed, bodiesTests, Placed, Sound}
+use Rattle.map.specs.Check.{kindTest, positionsTest, childrenTest, codeTest, firstFailed, bodiesTests, Placed}
 use Rattle.map.proofs.Laws.{placed-of, sound-of}
 use borrow.Author.Needs.{needs}
 use Rattle.map.proofs.tests.bodies_failed.Statement.{statement}
@@ -34,69 +33,33 @@ seven c = flag-true _ _ (c .if4 .left) (c .before .codes-ok .ensures)
 placed : (c : tie.Else2) → Placed (now (c .before .before .before .before .before .args .map))
 placed c = placed-of _ (c .before .before .before .before .before .pre .0) (five c)
 
--- src/tests.rt:258:22
-mul-start : tie.Need-mul-start
-mul-start c = search needs
-
--- src/tests.rt:258:17
-add-start : tie.Need-add-start
-add-start c = search needs
-
--- src/tests.rt:258:34
-mul-start-2 : tie.Need-mul-start-2
-mul-start-2 c = search needs
-
--- src/tests.rt:258:17
-add-start-2 : tie.Need-add-start-2
-add-start-2 c = search needs
-
--- src/tests.rt:259:9
-kinds-ok-requires : tie.Need-kinds-ok-requires
-kinds-ok-requires c κs = search needs
-
--- src/tests.rt:260:9
 returns : tie.Need-returns
 unfolding bodiesTests firstFailed
 returns c = rw (flag-false _ _ (c .if1 .taken) (c .before .kinds-ok .ensures))
 
--- src/tests.rt:262:9
-positions-ok-requires : tie.Need-positions-ok-requires
-positions-ok-requires c κs = search needs
-
--- src/tests.rt:263:9
 returns-2 : tie.Need-returns-2
 unfolding bodiesTests firstFailed
 returns-2 c = rw (four (c .before .before), flag-false _ _ (c .if2 .taken) (c .before .positions-ok .ensures))
 
--- src/tests.rt:265:9
 all-children-ok-requires : tie.Need-all-children-ok-requires
 all-children-ok-requires c κs = (placed c, c .before .before .before .before .before .pre .1 .0)
 
--- src/tests.rt:266:9
 returns-3 : tie.Need-returns-3
 unfolding bodiesTests firstFailed
 returns-3 c = rw (four (c .before .before .before .before), five (c .before .before), flag-false _ _ (c .if3 .taken) (c .before .all-children-ok .ensures))
 
--- src/tests.rt:268:9
-codes-ok-requires : tie.Need-codes-ok-requires
-codes-ok-requires c κs = search needs
-
--- src/tests.rt:269:9
 returns-4 : tie.Need-returns-4
 unfolding bodiesTests firstFailed
 returns-4 c = rw (four (c .before .before .before .before .before .before), five (c .before .before .before .before), six (c .before .before), flag-false _ _ (c .if4 .taken) (c .before .codes-ok .ensures))
 
--- src/tests.rt:271:9
 free-ok-requires : tie.Need-free-ok-requires
 free-ok-requires c κs = let s = c .before .before .before .before .before .before .before .before .before in
     (sound-of _ (placed (c .before .before .before .before)) (six (c .before .before)) (seven c), search needs)
 
--- src/tests.rt:272:9
 returns-5 : tie.Need-returns-5
 unfolding bodiesTests firstFailed
 returns-5 c = rw (four (c .before .before .before .before .before .before .before .before), five (c .before .before .before .before .before .before), six (c .before .before .before .before), seven (c .before .before), flag-false _ _ (c .if5 .taken) (c .before .free-ok .ensures))
 
--- src/tests.rt:254:1
 returns-6 : tie.Need-returns-6
 unfolding bodiesTests firstFailed
 returns-6 c = rw (four (c .before .before .before .before .before .before .before .before), five (c .before .before .before .before .before .before), six (c .before .before .before .before), seven (c .before .before), flag-true _ _ (c .if5 .left) (c .before .free-ok .ensures))
@@ -105,17 +68,17 @@ pub bodies-failed-spec : {M : Type 1} → statement M
 bodies-failed-spec =
     tie.close
     (tie.spec
-    mul-start
-    add-start
-    mul-start-2
-    add-start-2
-    kinds-ok-requires
+    (λ c. search needs)
+    (λ c. search needs)
+    (λ c. search needs)
+    (λ c. search needs)
+    (λ c κs. search needs)
     returns
-    positions-ok-requires
+    (λ c κs. search needs)
     returns-2
     all-children-ok-requires
     returns-3
-    codes-ok-requires
+    (λ c κs. search needs)
     returns-4
     free-ok-requires
     returns-5

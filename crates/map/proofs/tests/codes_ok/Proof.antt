@@ -1,7 +1,6 @@
 use Prim.Native.Nat.{_-_, _≤_}
 use mathlib.Core.Path.{_≡_}
-use mathlib.Core.Bool.{Bool, true}
-use native.Mathlib.Omega.{arith}
+use mathlib.Core.Bool.{true}
 use Rattle.folds.specs.Folds.{allBelow}
 use Rattle.folds.proofs.Loops.{loops-of}
 use Rattle.map.specs.Check.{codeTest}
@@ -18,31 +17,15 @@ Inv-loop map gates start codes r₀ r = (r ≤ codes) × (allBelow r (codeTest m
 abbrev μ-loop : tie.MeasureT-loop
 μ-loop map gates start codes r₀ r = codes - r
 
--- src/tests.rt:166:5
 loop-holds : tie.Need-loop-holds Inv-loop μ-loop
 loop-holds c = search (needs, loops-of)
 
--- src/tests.rt:167:13
-code-ok-requires : tie.Need-code-ok-requires Inv-loop μ-loop
-code-ok-requires c κs = search needs
-
--- src/tests.rt:168:13
 returns : tie.Need-returns Inv-loop μ-loop
 returns c = search (needs, loops-of)
 
--- src/tests.rt:170:9
-add-r : tie.Need-add-r Inv-loop μ-loop
-add-r c = search needs
-
--- src/tests.rt:166:5
-loop-less : tie.Need-loop-less Inv-loop μ-loop
-loop-less c = search needs
-
--- src/tests.rt:166:5
 loop-again : tie.Need-loop-again Inv-loop μ-loop
 loop-again c = search (needs, loops-of)
 
--- src/tests.rt:161:1
 returns-2 : tie.Need-returns-2 Inv-loop μ-loop
 returns-2 c = search (needs, loops-of)
 
@@ -53,9 +36,9 @@ codes-ok-spec =
     Inv-loop
     μ-loop
     loop-holds
-    code-ok-requires
+    (λ c κs. search needs)
     returns
-    add-r
-    loop-less
+    (λ c. search needs)
+    (λ c. search needs)
     loop-again
     returns-2)

@@ -1,9 +1,9 @@
 use Prim.Native.Nat.{_<_, _≤_}
-use mathlib.Core.Path.{_≡_, refl, sym, _∙_}
+use mathlib.Core.Path.{sym, _∙_}
 use native.Mathlib.Omega.{arith}
 use borrow.Author.Tests.{le-leb, lt-leb}
 use Rattle.folds.proofs.Tests.{and-both, and-first-false, and-second-false, flag-false, flag-true}
-use Rattle.map.specs.Check.{firstFailed, contentsTests}
+use Rattle.map.specs.Check.{contentsTests}
 use Rattle.map.proofs.Laws.{past, stop, no-test}
 use borrow.Author.Needs.{needs}
 use Rattle.map.proofs.tests.contents_failed.Statement.{statement}
@@ -13,31 +13,19 @@ use Rattle.map.proofs.tests.contents_failed.Lts as lts
 use Rattle.map.proofs.decode.word.Reads as word-reads
 use Rattle.map.proofs.tests.offsets_ok.Reads as offsets-ok-reads
 
--- src/tests.rt:238:9
 returns : tie.Need-returns
 unfolding contentsTests
 returns c = sym (stop _ _ _ (lt-leb _ _ (c .if1 .taken)))
 
--- src/tests.rt:240:9
-word-requires : tie.Need-word-requires
-word-requires c κs = search needs
-
--- src/tests.rt:242:9
 returns-2 : tie.Need-returns-2
 unfolding contentsTests
 returns-2 c = let h : c .before .word .result < 1 = omega arith in
     sym (past _ _ _ (le-leb _ _ (c .before .before .if1 .left)) ∙ stop _ _ _ (rw (← c .before .word .ensures .0) (and-first-false _ _ (lt-leb 1 _ h))))
 
--- src/tests.rt:245:9
 returns-3 : tie.Need-returns-3
 unfolding contentsTests
 returns-3 c = sym (past _ _ _ (le-leb _ _ (c .before .before .before .if1 .left)) ∙ stop _ _ _ (rw (← c .before .before .word .ensures .0) (and-second-false _ _ (lt-leb _ _ (c .if3 .taken)))))
 
--- src/tests.rt:247:9
-offsets-ok-requires : tie.Need-offsets-ok-requires
-offsets-ok-requires c κs = search needs
-
--- src/tests.rt:248:9
 returns-4 : tie.Need-returns-4
 unfolding contentsTests
 returns-4 c = let h : 1 ≤ c .before .before .before .before .word .result = omega arith in
@@ -45,7 +33,6 @@ returns-4 c = let h : 1 ≤ c .before .before .before .before .word .result = om
     ∙ past _ _ _ (rw (← c .before .before .before .before .word .ensures .0) (and-both _ _ (le-leb 1 _ h) (le-leb _ _ (c .before .before .if3 .left))))
     ∙ stop _ _ _ (flag-false _ _ (c .if4 .taken) (c .before .offsets-ok .ensures)))
 
--- src/tests.rt:234:1
 returns-5 : tie.Need-returns-5
 unfolding contentsTests
 returns-5 c = let h : 1 ≤ c .before .before .before .before .word .result = omega arith in
@@ -57,4 +44,4 @@ returns-5 c = let h : 1 ≤ c .before .before .before .before .word .result = om
 pub contents-failed-spec : {M : Type 1} → statement M
 contents-failed-spec =
     tie.close
-    (tie.spec returns word-requires returns-2 returns-3 offsets-ok-requires returns-4 returns-5)
+    (tie.spec returns (λ c κs. search needs) returns-2 returns-3 (λ c κs. search needs) returns-4 returns-5)

@@ -1,6 +1,6 @@
 use denote.Ref.{now}
 use Prim.Native.Nat.{_≤_}
-use mathlib.Core.Path.{_≡_, refl, sym, _∙_}
+use mathlib.Core.Path.{_≡_, sym, _∙_}
 use native.Mathlib.Omega.{arith}
 use lib.ListN.{length}
 use Rattle.map.specs.Check.{firstFailed, contentsTests, mapTests, verdict, Shaped}
@@ -21,32 +21,22 @@ none c = sym (c .before .contents-failed .ensures) ∙ c .if1 .left
 right : (c : tie.Else1) → (12 ≤ length (now (c .before .before .before .args .map))) × Shaped (now (c .before .before .before .args .map))
 right c = contents-passed _ (none c)
 
--- src/tests.rt:281:9
-contents-failed-requires : tie.Need-contents-failed-requires
-contents-failed-requires c κs = search needs
-
--- src/tests.rt:283:9
 returns : tie.Need-returns
 unfolding verdict mapTests
 returns c = c .before .contents-failed .ensures ∙ sym (fails-before _ _ (λ e. c .if1 .taken (c .before .contents-failed .ensures ∙ e)))
 
--- src/tests.rt:285:24
 word-requires : tie.Need-word-requires
 word-requires c κs = omega (arith, right c .0)
 
--- src/tests.rt:285:46
 word-requires-2 : tie.Need-word-requires-2
 word-requires-2 c κs = omega (arith, right (c .before) .0)
 
--- src/tests.rt:285:68
 word-requires-3 : tie.Need-word-requires-3
 word-requires-3 c κs = omega (arith, right (c .before .before) .0)
 
--- src/tests.rt:285:5
 bodies-failed-requires : tie.Need-bodies-failed-requires
 bodies-failed-requires c κs = (right (c .before .before .before) .1, search needs)
 
--- src/tests.rt:278:1
 returns-2 : tie.Need-returns-2
 unfolding verdict mapTests
 returns-2 c = c .bodies-failed .ensures ∙ sym (passes-before _ _ (contents-numbered _) (none (c .before .before .before .before)))
@@ -55,7 +45,7 @@ pub failed-spec : {M : Type 1} → statement M
 failed-spec =
     tie.close
     (tie.spec
-    contents-failed-requires
+    (λ c κs. search needs)
     returns
     word-requires
     word-requires-2

@@ -1,12 +1,10 @@
 use denote.Ref.{now}
-use Prim.Native.Nat.{_<_}
 use mathlib.Core.Path.{sym}
-use lib.ListN.{length}
 use Rattle.folds.proofs.Loops.{all-more, all-fails}
 use Rattle.map.proofs.Laws.{mark-none, mark-some}
 use Prim.Native.Nat.{_-_, _≤_}
 use mathlib.Core.Path.{_≡_}
-use mathlib.Core.Bool.{Bool, true}
+use mathlib.Core.Bool.{true}
 use native.Mathlib.Omega.{arith}
 use Rattle.folds.specs.Folds.{allBelow}
 use Rattle.folds.proofs.Loops.{loops}
@@ -28,58 +26,25 @@ Inv-loop map gates g marks f j₀ j = (j ≤ f) × (allBelow j (λ i. not (coded
 abbrev μ-loop : tie.MeasureT-loop
 μ-loop map gates g marks f j₀ j = f - j
 
--- src/tests.rt:195:35
-mul-wide : tie.Need-mul-wide Inv-loop μ-loop
-mul-wide c = search needs
-
--- src/tests.rt:195:30
-add-wide : tie.Need-add-wide Inv-loop μ-loop
-add-wide c = search needs
-
--- src/tests.rt:195:26
-shared-slice-read-wide : tie.Need-shared-slice-read-wide Inv-loop μ-loop
-shared-slice-read-wide c = search needs
-
--- src/tests.rt:195:9
-wide-requires : tie.Need-wide-requires Inv-loop μ-loop
-wide-requires c κs = search needs
-
--- src/tests.rt:197:5
 loop-holds : tie.Need-loop-holds Inv-loop μ-loop
 loop-holds c = search (needs, loops)
 
--- src/tests.rt:198:13
-child-requires : tie.Need-child-requires Inv-loop μ-loop
-child-requires c κs = search needs
-
--- src/tests.rt:199:12
 shared-slice-read-if1 : tie.Need-shared-slice-read-if1 Inv-loop μ-loop
 shared-slice-read-if1 c = let s = c .before .before .before .before .before .before .before .before in
     let l = c .before .before .before in
     omega (arith, s .pre .0 .0 .below (s .args .g) (l .loop .j) (omega arith) (omega arith))
 
--- src/tests.rt:200:13
 returns : tie.Need-returns Inv-loop μ-loop
 unfolding freeTest
 returns c = let s = c .before .before .before .before .before .before .before .before .before in
     let l = c .before .before .before .before in
     sym (all-fails _ _ (l .loop .j) (omega arith) (rw (← c .before .before .child .ensures .0) (mark-some _ (now (s .args .marks)) _ (s .pre .1 .1) (c .if1 .taken))))
 
--- src/tests.rt:202:9
-add-j : tie.Need-add-j Inv-loop μ-loop
-add-j c = search needs
-
--- src/tests.rt:197:5
-loop-less : tie.Need-loop-less Inv-loop μ-loop
-loop-less c = search needs
-
--- src/tests.rt:197:5
 loop-again : tie.Need-loop-again Inv-loop μ-loop
 loop-again c = let s = c .before .before .before .before .before .before .before .before .before in
     let l = c .before .before .before .before in
     (search needs, all-more _ (l .loop .j) (l .loop .inv .1) (rw (← c .before .before .child .ensures .0) (mark-none _ (now (s .args .marks)) _ (s .pre .1 .1) (c .if1 .left))))
 
--- src/tests.rt:190:1
 returns-2 : tie.Need-returns-2 Inv-loop μ-loop
 unfolding freeTest
 returns-2 c = rw (← c .before .before .wide .ensures .0) (search (needs, loops))
@@ -90,15 +55,15 @@ gate-free-spec =
     (tie.spec
     Inv-loop
     μ-loop
-    mul-wide
-    add-wide
-    shared-slice-read-wide
-    wide-requires
+    (λ c. search needs)
+    (λ c. search needs)
+    (λ c. search needs)
+    (λ c κs. search needs)
     loop-holds
-    child-requires
+    (λ c κs. search needs)
     shared-slice-read-if1
     returns
-    add-j
-    loop-less
+    (λ c. search needs)
+    (λ c. search needs)
     loop-again
     returns-2)

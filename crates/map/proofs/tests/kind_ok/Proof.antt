@@ -1,7 +1,7 @@
 use borrow.Author.Needs.{needs}
 use Prim.Native.Nat.{ℕ, zero, suc, _<_, _≤_}
 use mathlib.Core.Path.{_≡_, refl, sym}
-use mathlib.Core.Bool.{Bool, true, false}
+use mathlib.Core.Bool.{false}
 use native.Mathlib.Omega.{arith}
 use lib.Dec.{leb}
 use borrow.Author.Tests.{le-leb, lt-leb}
@@ -25,32 +25,26 @@ other : (k f : ℕ) → 4 ≤ k → (k ≡ 4 → ⊥) → kindFits k f ≡ false
 unfolding kindFits _and_
 other k f l a = rw (lt-leb k 4 (omega arith))
 
--- src/tests.rt:43:17
 returns : tie.Need-returns
 unfolding _and_
 returns c = rw (many _ _ (search needs) (search needs) (c .before .if1 .taken), lt-leb 2 _ (c .if2 .taken))
 
--- src/tests.rt:35:1
 returns-2 : tie.Need-returns-2
 unfolding kindFits _and_
 returns-2 c = rw (c .match .keys1)
 
--- src/tests.rt:35:1
 returns-3 : tie.Need-returns-3
 unfolding kindFits _and_
 returns-3 c = rw (c .match .keys2)
 
--- src/tests.rt:35:1
 returns-4 : tie.Need-returns-4
 unfolding kindFits _and_
 returns-4 c = rw (c .match .keys3)
 
--- src/tests.rt:35:1
 returns-5 : tie.Need-returns-5
 unfolding _and_
 returns-5 c = rw (many _ _ (search needs) (search needs) (c .before .if1 .taken), le-leb 2 _ (c .if2 .left))
 
--- src/tests.rt:35:1
 returns-6 : tie.Need-returns-6
 returns-6 c = sym (other _ _ (c .if1 .left) (search needs))
 

@@ -1,28 +1,22 @@
 use borrow.Author.Needs.{needs}
-use mathlib.Core.Path.{_≡_, refl}
 use Rattle.state.proofs.Count.{not-gives, and-gives, or-gives, xor-gives}
 use Rattle.state.proofs.gates.gives.Statement.{statement}
 use Rattle.state.proofs.gates.gives.Tie as tie
 use Rattle.state.proofs.gates.gives.Reads as reads
 use Rattle.state.proofs.gates.gives.Lts as lts
 
--- src/gates.rt:40:1
 returns : tie.Need-returns
 returns c = λ vs l e. rw (c .match .keys1)
 
--- src/gates.rt:40:1
 returns-2 : tie.Need-returns-2
 returns-2 c = rw (c .match .keys2) (not-gives _ _)
 
--- src/gates.rt:40:1
 returns-3 : tie.Need-returns-3
 returns-3 c = rw (c .match .keys3) (and-gives _ _)
 
--- src/gates.rt:40:1
 returns-4 : tie.Need-returns-4
 returns-4 c = rw (c .match .keys4) (or-gives _ _)
 
--- src/gates.rt:40:1
 returns-5 : tie.Need-returns-5
 returns-5 c = xor-gives (c .before .args .fan) (c .before .args .ones) (c .before .args .kind) (search needs) (search needs) (search needs) (search needs)
 

@@ -2,9 +2,8 @@ use Rattle.map.specs.Map.{kindByte}
 use mathlib.Core.Bool.{Bool·beq}
 use Rattle.circuit.specs.Tools.{same}
 use Rattle.map.proofs.Laws.{gate-kind}
-use mathlib.Core.Path.{_≡_, refl, sym, ap, _∙_}
+use mathlib.Core.Path.{_≡_, refl, sym, _∙_}
 use mathlib.Core.Bool.{Bool, true, false}
-use native.Mathlib.Omega.{arith}
 use denote.Ref.{now}
 use Rattle.circuit.specs.Circuit.{justified}
 use Rattle.circuit.specs.Gate.{isInput, kindOf}
@@ -23,24 +22,10 @@ beq-same true false = refl
 beq-same false true = refl
 beq-same false false = refl
 
--- src/gates.rt:67:8
-kind-requires : tie.Need-kind-requires
-kind-requires c κs = search needs
-
--- src/gates.rt:68:9
 returns : tie.Need-returns
 unfolding justified
 returns c = sym (or-first _ _ (rw (← c .before .kind .ensures, c .if1 .taken)))
 
--- src/gates.rt:70:17
-shared-slice-read-is-on : tie.Need-shared-slice-read-is-on
-shared-slice-read-is-on c = search needs
-
--- src/gates.rt:71:5
-given-requires : tie.Need-given-requires
-given-requires c κs = search needs
-
--- src/gates.rt:63:1
 returns-2 : tie.Need-returns-2
 unfolding justified
 returns-2 c = let s = c .before .before .before .before .before .before in
@@ -49,4 +34,4 @@ returns-2 c = let s = c .before .before .before .before .before .before in
 
 pub justified-spec : {M : Type 1} → statement M
 justified-spec =
-    tie.close (tie.spec kind-requires returns shared-slice-read-is-on given-requires returns-2)
+    tie.close (tie.spec (λ c κs. search needs) returns (λ c. search needs) (λ c κs. search needs) returns-2)

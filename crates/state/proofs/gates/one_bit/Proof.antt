@@ -5,11 +5,9 @@ use Rattle.state.proofs.gates.one_bit.Tie as tie
 use Rattle.state.proofs.gates.one_bit.Reads as reads
 use Rattle.state.proofs.gates.one_bit.Lts as lts
 
--- src/gates.rt:17:1
 returns : tie.Need-returns
 returns c = (rw (eq-eqb _ 1 (c .if1 .taken)), omega arith)
 
--- src/gates.rt:17:1
 returns-2 : tie.Need-returns-2
 returns-2 c = (rw (ne-eqb _ 1 (c .if1 .left)), omega arith)
 

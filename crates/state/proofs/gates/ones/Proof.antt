@@ -1,8 +1,6 @@
 use Rattle.map.specs.Map.{fanIn}
-use Prim.Native.Nat.{_+_, _-_, _≤_, _<_}
-use mathlib.Core.Path.{_≡_, refl, sym, _∙_}
-use mathlib.Core.Bool.{Bool}
-use native.Mathlib.Nat.{le-antisymm}
+use Prim.Native.Nat.{_-_, _≤_}
+use mathlib.Core.Path.{_≡_, refl}
 use native.Mathlib.Numerals.{add-one}
 use native.Mathlib.Omega.{arith}
 use lib.ListN.{length}
@@ -26,45 +24,17 @@ Inv-loop map gates g s fan count₀ j₀ count j = (j ≤ fan) × ((count ≡ le
 abbrev μ-loop : tie.MeasureT-loop
 μ-loop map gates g s fan count₀ j₀ count j = fan - j
 
--- src/gates.rt:28:9
-fan-in-requires : tie.Need-fan-in-requires Inv-loop μ-loop
-fan-in-requires c κs = search needs
-
--- src/gates.rt:31:5
 loop-holds : tie.Need-loop-holds Inv-loop μ-loop
 loop-holds c = (search needs, (refl, search needs))
 
--- src/gates.rt:32:13
-child-requires : tie.Need-child-requires Inv-loop μ-loop
-child-requires c κs = search needs
-
--- src/gates.rt:33:26
 shared-slice-read-one-bit : tie.Need-shared-slice-read-one-bit Inv-loop μ-loop
 shared-slice-read-one-bit c = let s = c .before .before .before .before .before .before .before in
     omega (arith, s .pre .0 .sound .below (s .args .g) (c .before .before .before .loop .j) (omega arith) (omega arith))
 
--- src/gates.rt:33:18
-one-bit-requires : tie.Need-one-bit-requires Inv-loop μ-loop
-one-bit-requires c κs = search needs
-
--- src/gates.rt:33:9
-add-count : tie.Need-add-count Inv-loop μ-loop
-add-count c = search needs
-
--- src/gates.rt:34:9
-add-j : tie.Need-add-j Inv-loop μ-loop
-add-j c = search needs
-
--- src/gates.rt:31:5
-loop-less : tie.Need-loop-less Inv-loop μ-loop
-loop-less c = search needs
-
--- src/gates.rt:31:5
 loop-again : tie.Need-loop-again Inv-loop μ-loop
 loop-again c = let l = c .before .before .before .before .loop in
     (search needs, (rw (add-one (l .j), place-more _ (l .j), ← l .inv .1 .0, ← c .before .before .child .ensures .0) (cc), search needs))
 
--- src/gates.rt:24:1
 returns : tie.Need-returns Inv-loop μ-loop
 returns c = let l = c .before .loop in
     let s = c .before .before .before .before .before in
@@ -77,13 +47,13 @@ ones-spec =
     (tie.spec
     Inv-loop
     μ-loop
-    fan-in-requires
+    (λ c κs. search needs)
     loop-holds
-    child-requires
+    (λ c κs. search needs)
     shared-slice-read-one-bit
-    one-bit-requires
-    add-count
-    add-j
-    loop-less
+    (λ c κs. search needs)
+    (λ c. search needs)
+    (λ c. search needs)
+    (λ c. search needs)
     loop-again
     returns)

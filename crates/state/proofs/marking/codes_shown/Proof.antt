@@ -1,12 +1,12 @@
 use Prim.Native.Nat.{_-_, _≤_}
 use mathlib.Core.Path.{_≡_}
-use mathlib.Core.Bool.{Bool, true}
+use mathlib.Core.Bool.{true}
 use native.Mathlib.Omega.{arith}
 use Rattle.folds.specs.Folds.{allBelow}
 use Rattle.folds.proofs.Loops.{loops-of}
 use lib.Dec.{eqb}
 use lib.ListN.{getD}
-use mathlib.Core.Path.{sym, _∙_}
+use mathlib.Core.Path.{sym}
 use Rattle.folds.proofs.Tests.{flag-false, flag-true}
 use Rattle.folds.proofs.Loops.{all-more, all-fails}
 use Rattle.map.specs.Map.{codeGate, codeValue}
@@ -24,32 +24,16 @@ Inv-loop map start codes s r₀ r = (r ≤ codes) × (allBelow r (λ i. eqb (get
 abbrev μ-loop : tie.MeasureT-loop
 μ-loop map start codes s r₀ r = codes - r
 
--- src/marking.rt:47:5
 loop-holds : tie.Need-loop-holds Inv-loop μ-loop
 loop-holds c = search (needs, loops-of)
 
--- src/marking.rt:48:13
-code-shown-requires : tie.Need-code-shown-requires Inv-loop μ-loop
-code-shown-requires c κs = search needs
-
--- src/marking.rt:49:13
 returns : tie.Need-returns Inv-loop μ-loop
 unfolding shownByRecord
 returns c = let l = c .before .before .before .loop in sym (all-fails _ _ (l .r) (omega arith) (flag-false _ _ (c .if1 .taken) (c .before .code-shown .ensures)))
 
--- src/marking.rt:51:9
-add-r : tie.Need-add-r Inv-loop μ-loop
-add-r c = search needs
-
--- src/marking.rt:47:5
-loop-less : tie.Need-loop-less Inv-loop μ-loop
-loop-less c = search needs
-
--- src/marking.rt:47:5
 loop-again : tie.Need-loop-again Inv-loop μ-loop
 loop-again c = let l = c .before .before .before .loop in (search needs, all-more _ (l .r) (l .inv .1) (flag-true _ _ (c .if1 .left) (c .before .code-shown .ensures)))
 
--- src/marking.rt:42:1
 returns-2 : tie.Need-returns-2 Inv-loop μ-loop
 unfolding shownByRecord
 returns-2 c = search (needs, loops-of)
@@ -61,9 +45,9 @@ codes-shown-spec =
     Inv-loop
     μ-loop
     loop-holds
-    code-shown-requires
+    (λ c κs. search needs)
     returns
-    add-r
-    loop-less
+    (λ c. search needs)
+    (λ c. search needs)
     loop-again
     returns-2)

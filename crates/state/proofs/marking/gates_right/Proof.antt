@@ -1,7 +1,6 @@
 use Prim.Native.Nat.{_-_, _≤_}
 use mathlib.Core.Path.{_≡_}
-use mathlib.Core.Bool.{Bool, true}
-use native.Mathlib.Omega.{arith}
+use mathlib.Core.Bool.{true}
 use Rattle.folds.specs.Folds.{allBelow}
 use Rattle.folds.proofs.Loops.{loops-of}
 use Rattle.circuit.specs.Circuit.{justified}
@@ -19,31 +18,15 @@ Inv-loop map gates s g₀ g = (g ≤ gates) × (allBelow g (justified (circuit m
 abbrev μ-loop : tie.MeasureT-loop
 μ-loop map gates s g₀ g = gates - g
 
--- src/marking.rt:23:5
 loop-holds : tie.Need-loop-holds Inv-loop μ-loop
 loop-holds c = search (needs, loops-of)
 
--- src/marking.rt:24:13
-justified-requires : tie.Need-justified-requires Inv-loop μ-loop
-justified-requires c κs = search needs
-
--- src/marking.rt:25:13
 returns : tie.Need-returns Inv-loop μ-loop
 returns c = search (needs, loops-of)
 
--- src/marking.rt:27:9
-add-g : tie.Need-add-g Inv-loop μ-loop
-add-g c = search needs
-
--- src/marking.rt:23:5
-loop-less : tie.Need-loop-less Inv-loop μ-loop
-loop-less c = search needs
-
--- src/marking.rt:23:5
 loop-again : tie.Need-loop-again Inv-loop μ-loop
 loop-again c = search (needs, loops-of)
 
--- src/marking.rt:18:1
 returns-2 : tie.Need-returns-2 Inv-loop μ-loop
 returns-2 c = search (needs, loops-of)
 
@@ -54,9 +37,9 @@ gates-right-spec =
     Inv-loop
     μ-loop
     loop-holds
-    justified-requires
+    (λ c κs. search needs)
     returns
-    add-g
-    loop-less
+    (λ c. search needs)
+    (λ c. search needs)
     loop-again
     returns-2)

@@ -1,12 +1,11 @@
 use denote.Ref.{now}
 use Prim.Native.Nat.{ℕ}
-use mathlib.Core.Path.{_≡_, refl, sym, ap, _∙_}
-use mathlib.Core.Bool.{Bool, true, false}
+use mathlib.Core.Path.{_≡_, sym, _∙_}
+use mathlib.Core.Bool.{true}
 use native.Mathlib.Omega.{arith}
-use lib.ListN.{length, drop}
+use lib.ListN.{drop}
 use borrow.Author.Tests.{eq-eqb, ne-eqb}
 use Rattle.folds.proofs.Tests.{flag-false, flag-true, and-both, and-first-false, and-second-false}
-use Rattle.map.specs.Map.{gateCount}
 use Rattle.map.specs.Check.{firstFailed}
 use Rattle.map.proofs.Laws.{past, stop, no-test}
 use Rattle.state.specs.State.{bitsTest, configurationTests, configurationMarking}
@@ -37,60 +36,27 @@ none : (c : tie.Else2) → from 0 (c .before .before .before .before .before) �
 unfolding configurationTests
 none c = q1 (c .before .before) ∙ past _ _ _ (bits c) ∙ no-test
 
--- src/marking.rt:62:9
 returns : tie.Need-returns
 unfolding configurationTests configurationMarking
 returns c = let s = c .before .before .before in
     let e = stop _ _ _ (ne-eqb _ _ (λ z. c .if1 .taken (z ∙ sym (s .pre .1 .0)))) in
     mark-refused _ _ _ 9 (sym e) (λ z. omega arith)
 
--- src/marking.rt:64:9
-bits-ok-requires : tie.Need-bits-ok-requires
-bits-ok-requires c κs = search needs
-
--- src/marking.rt:65:9
 returns-2 : tie.Need-returns-2
 unfolding configurationTests configurationMarking
 returns-2 c = let e = q1 (c .before .before) ∙ stop _ _ _ (flag-false _ _ (c .if2 .taken) (c .before .bits-ok .ensures)) in
     mark-refused _ _ _ 10 (sym e) (λ z. omega arith)
 
--- src/marking.rt:67:9
-gates-right-requires : tie.Need-gates-right-requires
-gates-right-requires c κs = search needs
-
--- src/marking.rt:68:9
 returns-3 : tie.Need-returns-3
 unfolding configurationMarking
 returns-3 c = let q = c .before .before in
     mark-no _ _ _ (none q) (mark-tests _ _ (q .before .before .before .before .before .pre .0) (bits-of _ (bits q)) ∙ and-first-false _ _ (flag-false _ _ (c .if3 .taken) (c .before .gates-right .ensures)))
 
--- src/marking.rt:70:31
-mul-codes-shown : tie.Need-mul-codes-shown
-mul-codes-shown c = search needs
-
--- src/marking.rt:70:26
-add-codes-shown : tie.Need-add-codes-shown
-add-codes-shown c = search needs
-
--- src/marking.rt:70:43
-mul-codes-shown-2 : tie.Need-mul-codes-shown-2
-mul-codes-shown-2 c = search needs
-
--- src/marking.rt:70:26
-add-codes-shown-2 : tie.Need-add-codes-shown-2
-add-codes-shown-2 c = search needs
-
--- src/marking.rt:70:9
-codes-shown-requires : tie.Need-codes-shown-requires
-codes-shown-requires c κs = search needs
-
--- src/marking.rt:71:9
 returns-4 : tie.Need-returns-4
 unfolding configurationMarking
 returns-4 c = let q = c .before .before .before .before in
     mark-no _ _ _ (none q) (mark-tests _ _ (q .before .before .before .before .before .pre .0) (bits-of _ (bits q)) ∙ and-second-false _ _ (flag-false _ _ (c .if4 .taken) (c .before .codes-shown .ensures)))
 
--- src/marking.rt:57:1
 returns-5 : tie.Need-returns-5
 unfolding configurationMarking
 returns-5 c = let q = c .before .before .before .before in
@@ -102,14 +68,14 @@ mark-accepted-spec =
     tie.close
     (tie.spec
     returns
-    bits-ok-requires
+    (λ c κs. search needs)
     returns-2
-    gates-right-requires
+    (λ c κs. search needs)
     returns-3
-    mul-codes-shown
-    add-codes-shown
-    mul-codes-shown-2
-    add-codes-shown-2
-    codes-shown-requires
+    (λ c. search needs)
+    (λ c. search needs)
+    (λ c. search needs)
+    (λ c. search needs)
+    (λ c κs. search needs)
     returns-4
     returns-5)

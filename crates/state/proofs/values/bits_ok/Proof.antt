@@ -1,10 +1,9 @@
 use Rattle.folds.proofs.Loops.{all-more}
 use Prim.Native.Nat.{_-_, _≤_}
 use mathlib.Core.Path.{_≡_}
-use mathlib.Core.Bool.{Bool, true}
-use native.Mathlib.Omega.{arith}
+use mathlib.Core.Bool.{true}
 use lib.Dec.{leb}
-use lib.ListN.{length, getD}
+use lib.ListN.{getD}
 use borrow.Author.Tests.{le-leb, lt-leb}
 use Rattle.folds.specs.Folds.{allBelow}
 use Rattle.folds.proofs.Loops.{loops-of}
@@ -21,32 +20,16 @@ Inv-loop s n i₀ i = (i ≤ n) × (allBelow i (λ j. leb (getD s j 0) 1) ≡ tr
 abbrev μ-loop : tie.MeasureT-loop
 μ-loop s n i₀ i = n - i
 
--- src/values.rt:37:5
 loop-holds : tie.Need-loop-holds Inv-loop μ-loop
 loop-holds c = search (needs, loops-of)
 
--- src/values.rt:38:16
-shared-slice-read-if1 : tie.Need-shared-slice-read-if1 Inv-loop μ-loop
-shared-slice-read-if1 c = search needs
-
--- src/values.rt:39:13
 returns : tie.Need-returns Inv-loop μ-loop
 unfolding bitsTest
 returns c = search (needs, loops-of, le-leb, lt-leb)
 
--- src/values.rt:41:9
-add-i : tie.Need-add-i Inv-loop μ-loop
-add-i c = search needs
-
--- src/values.rt:37:5
-loop-less : tie.Need-loop-less Inv-loop μ-loop
-loop-less c = search needs
-
--- src/values.rt:37:5
 loop-again : tie.Need-loop-again Inv-loop μ-loop
 loop-again c = let l = c .before .before .before .loop in (search needs, all-more _ (l .i) (l .inv .1) (le-leb _ _ (c .if1 .left)))
 
--- src/values.rt:32:1
 returns-2 : tie.Need-returns-2 Inv-loop μ-loop
 unfolding bitsTest
 returns-2 c = search (needs, loops-of)
@@ -58,9 +41,9 @@ bits-ok-spec =
     Inv-loop
     μ-loop
     loop-holds
-    shared-slice-read-if1
+    (λ c. search needs)
     returns
-    add-i
-    loop-less
+    (λ c. search needs)
+    (λ c. search needs)
     loop-again
     returns-2)

@@ -1,7 +1,7 @@
 use denote.Ref.{now}
 use Prim.Native.Nat.{ℕ, _<_, _≤_}
-use mathlib.Core.Path.{_≡_, refl, sym, ap, _∙_}
-use mathlib.Core.Bool.{Bool, true, false}
+use mathlib.Core.Path.{_≡_, sym, ap, _∙_}
+use mathlib.Core.Bool.{true}
 use native.Mathlib.Omega.{arith}
 use lib.ListN.{length, drop}
 use borrow.Author.Tests.{eq-eqb, ne-eqb, le-leb, lt-leb}
@@ -38,24 +38,17 @@ q2 : (c : tie.Else2) → from 0 (c .before .before .before .before .before .befo
 unfolding rowTests
 q2 c = q1 (c .before .before) ∙ past _ _ _ (bits c)
 
--- src/values.rt:73:9
 returns : tie.Need-returns
 unfolding rowTests rowEvaluation
 returns c = let s = c .before .before .before .before in
     let e = stop _ _ _ (ne-eqb _ _ (λ z. c .if1 .taken (z ∙ ap (inputsBefore (circuit (now (s .args .map)))) (sym (s .pre .1 .0)) ∙ sym (s .pre .1 .1)))) in
     refused-by _ _ _ 9 _ (sym e) (λ z. omega arith)
 
--- src/values.rt:75:9
-bits-ok-requires : tie.Need-bits-ok-requires
-bits-ok-requires c κs = search needs
-
--- src/values.rt:76:9
 returns-2 : tie.Need-returns-2
 unfolding rowTests rowEvaluation
 returns-2 c = let e = q1 (c .before .before) ∙ stop _ _ _ (flag-false _ _ (c .if2 .taken) (c .before .bits-ok .ensures)) in
     refused-by _ _ _ 10 _ (sym e) (λ z. omega arith)
 
--- src/values.rt:79:9
 returns-3 : tie.Need-returns-3
 unfolding rowTests rowEvaluation
 returns-3 c = let s = c .before .before .before .before .before .before .before in
@@ -63,17 +56,11 @@ returns-3 c = let s = c .before .before .before .before .before .before .before 
     let e = q2 (c .before) ∙ stop _ _ _ (lt-leb _ _ h) in
     refused-by _ _ _ 14 _ (sym e) (λ z. omega arith)
 
--- src/values.rt:81:5
 fill-requires : tie.Need-fill-requires
 fill-requires c κs = let q = c .before .before in
     let s = q .before .before .before .before .before .before in
     ((s .pre .0, (s .pre .1 .0, omega arith)), (sym (s .pre .1 .1) ∙ sym (q .before .before .if1 .left), bits-of _ (bits q)))
 
--- src/values.rt:68:1
-same-length : tie.Need-same-length
-same-length c = search needs
-
--- src/values.rt:68:1
 returns-4 : tie.Need-returns-4
 unfolding rowTests rowEvaluation
 returns-4 c = let s = c .before .before .before .before .before .before .before .before .before .before .before in
@@ -84,4 +71,4 @@ returns-4 c = let s = c .before .before .before .before .before .before .before 
 pub evaluate-accepted-spec : {M : Type 1} → statement M
 evaluate-accepted-spec =
     tie.close
-    (tie.spec returns bits-ok-requires returns-2 returns-3 fill-requires same-length returns-4)
+    (tie.spec returns (λ c κs. search needs) returns-2 returns-3 fill-requires (λ c. search needs) returns-4)

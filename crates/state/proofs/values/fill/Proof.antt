@@ -1,8 +1,8 @@
 use mathlib.Core.List.{List}
 use lib.ListN.{set}
 use denote.Ref.{now}
-use Prim.Native.Nat.{ℕ, _+_, _-_, _≤_, _<_}
-use mathlib.Core.Path.{_≡_, refl, sym, ap, _∙_}
+use Prim.Native.Nat.{ℕ, _-_, _≤_}
+use mathlib.Core.Path.{_≡_, refl, ap, _∙_}
 use native.Mathlib.Omega.{arith}
 use lib.ListN.{length, length-set}
 use Rattle.circuit.specs.Evaluate.{inputsBefore}
@@ -25,41 +25,14 @@ Inv-loop map gates row out₀ at₀ g₀ out at g = (g ≤ gates) × ((at ≡ in
 abbrev μ-loop : tie.MeasureT-loop
 μ-loop map gates row out₀ at₀ g₀ out at g = gates - g
 
--- src/values.rt:59:5
 loop-holds : tie.Need-loop-holds Inv-loop μ-loop
 loop-holds c = (search needs, (inputs-none _, (search needs, (filled-none _ _ _, refl))))
 
--- src/values.rt:60:13
 gate-value-requires : tie.Need-gate-value-requires Inv-loop μ-loop
 gate-value-requires c κs = let s = c .before .before .before .before .before .before in
     let l = c .before .before .loop in
     ((s .pre .0 .0, (s .pre .0 .1 .0, (c .before .loop-test .taken, omega arith))), (l .inv .1 .0, s .pre .1))
 
--- src/values.rt:61:9
-slice-write-out : tie.Need-slice-write-out Inv-loop μ-loop
-slice-write-out c = search needs
-
--- src/values.rt:62:33
-kind-requires : tie.Need-kind-requires Inv-loop μ-loop
-kind-requires c κs = search needs
-
--- src/values.rt:62:15
-input-bit-requires : tie.Need-input-bit-requires Inv-loop μ-loop
-input-bit-requires c κs = search needs
-
--- src/values.rt:62:9
-add-at : tie.Need-add-at Inv-loop μ-loop
-add-at c = search needs
-
--- src/values.rt:63:9
-add-g : tie.Need-add-g Inv-loop μ-loop
-add-g c = search needs
-
--- src/values.rt:59:5
-loop-less : tie.Need-loop-less Inv-loop μ-loop
-loop-less c = search needs
-
--- src/values.rt:59:5
 loop-again : tie.Need-loop-again Inv-loop μ-loop
 loop-again c = let l = c .before .before .before .before .before .loop in
     let s = c .before .before .before .before .before .before .before .before .before in
@@ -79,11 +52,6 @@ loop-again c = let l = c .before .before .before .before .before .loop in
       ),
     )
 
--- src/values.rt:52:1
-same-length : tie.Need-same-length Inv-loop μ-loop
-same-length c = search needs
-
--- src/values.rt:52:1
 returns : tie.Need-returns Inv-loop μ-loop
 returns c = let l = c .before .loop in
     let s = c .before .before .before .before .before in
@@ -97,12 +65,12 @@ fill-spec =
     μ-loop
     loop-holds
     gate-value-requires
-    slice-write-out
-    kind-requires
-    input-bit-requires
-    add-at
-    add-g
-    loop-less
+    (λ c. search needs)
+    (λ c κs. search needs)
+    (λ c κs. search needs)
+    (λ c. search needs)
+    (λ c. search needs)
+    (λ c. search needs)
     loop-again
-    same-length
+    (λ c. search needs)
     returns)

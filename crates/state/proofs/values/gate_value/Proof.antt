@@ -1,9 +1,8 @@
 use Rattle.circuit.specs.Tools.{byte}
 use Rattle.map.proofs.Laws.{input-kind, gate-kind}
 use denote.Ref.{now}
-use Prim.Native.Nat.{_<_}
-use mathlib.Core.Path.{_≡_, refl, sym, ap, _∙_}
-use mathlib.Core.Bool.{Bool, true, false}
+use mathlib.Core.Path.{_≡_, ap, _∙_}
+use mathlib.Core.Bool.{true, false}
 use native.Mathlib.Omega.{arith}
 use Rattle.circuit.specs.Gate.{isInput, kindOf}
 use Rattle.circuit.proofs.Values.{bit-byte}
@@ -22,29 +21,14 @@ use Rattle.state.proofs.values.bit.Reads as bit-reads
 input : (c : tie.Then1) → isInput (kindOf (kindByte (now (c .before .before .before .before .before .args .map)) (c .before .before .before .before .before .args .g))) ≡ true
 input c = rw (← c .before .kind .ensures) (input-kind _ (c .if1 .taken))
 
--- src/values.rt:45:8
-kind-requires : tie.Need-kind-requires
-kind-requires c κs = search needs
-
--- src/values.rt:46:16
 shared-slice-read-result : tie.Need-shared-slice-read-result
 shared-slice-read-result c = let s = c .before .before .before .before .before .before in
     omega (arith, row-has (circuit (now (s .args .map))) (s .args .gates) (s .args .g) (omega arith) (input (c .before)))
 
--- src/values.rt:46:9
 returns : tie.Need-returns
 returns c = let s = c .before .before .before .before .before .before in
     rw (input (c .before)) (bit-byte _ (s .pre .1 .1 .1 (s .args .at)))
 
--- src/values.rt:48:9
-given-requires : tie.Need-given-requires
-given-requires c κs = search needs
-
--- src/values.rt:48:5
-bit-requires : tie.Need-bit-requires
-bit-requires c κs = search needs
-
--- src/values.rt:40:1
 returns-2 : tie.Need-returns-2
 returns-2 c = let s = c .before .before .before .before .before .before .before in
     let i : isInput (kindOf (kindByte (now (s .args .map)) (s .args .g))) ≡ false = rw (← c .before .before .before .kind .ensures) (gate-kind _ (c .before .before .if1 .left)) in
@@ -53,4 +37,4 @@ returns-2 c = let s = c .before .before .before .before .before .before .before 
 pub gate-value-spec : {M : Type 1} → statement M
 gate-value-spec =
     tie.close
-    (tie.spec kind-requires shared-slice-read-result returns given-requires bit-requires returns-2)
+    (tie.spec (λ c κs. search needs) shared-slice-read-result returns (λ c κs. search needs) (λ c κs. search needs) returns-2)
