@@ -3,3 +3,4 @@ pub mod Accepted
 pub mod Parts
 pub mod Answers
 pub mod Codes
+pub mod Count

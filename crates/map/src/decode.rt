@@ -1,10 +1,10 @@
 // Reading a map's numbers.
 use super::Counts;
+use super::kinds;
 ghost use mathlib.Core.Path.{_≡_};
 ghost use Prim.Native.Nat.{_+_, _*_, _<_, _≤_};
 ghost use lib.ListN.{length};
 ghost use Rattle.circuit.specs.Tools.{byte};
-ghost use Rattle.circuit.specs.Gate.{kindOf, isInput};
 ghost use Rattle.circuit.specs.Evaluate.{inputsBefore};
 ghost use Rattle.map.specs.Map.{u16At, gateCount, codeCount, codesAt, kindByte, fanIn, childAt, codeGate, circuit};
 ghost use Rattle.map.specs.Check.{Shaped, Placed, countsOf};
@@ -41,13 +41,6 @@ pub fn code_gate(map: &[u8], start: usize, r: usize) -> usize
     word(map, start + 4 * r)
 }
 
-// 1 for an input's kind byte, else 0.
-pub fn input_bit(kind: u8) -> usize
-    ensures { λ r. ⌜ (r ≡ byte (isInput (kindOf kind))) × (r ≤ 1) ⌝ }
-{
-    if kind == 0 { 1 } else { 0 }
-}
-
 // The number of inputs.
 fn count_inputs(map: &[u8], gates: usize) -> usize
     requires { ⌜ (gates ≤ 1024) × (12 + 4 * gates ≤ length (now map)) ⌝ }
@@ -56,7 +49,7 @@ fn count_inputs(map: &[u8], gates: usize) -> usize
     let mut count = 0;
     let mut g = 0;
     while g < gates {
-        count += input_bit(map[12 + 4 * g]);
+        count += kinds::input_bit(map[12 + 4 * g]);
         g += 1;
     }
     count

@@ -1,5 +1,6 @@
 // Maps: Check, and the children of a gate.
 pub mod decode;
+pub mod kinds;
 mod tests;
 
 ghost use mathlib.Core.Path.{_≡_};

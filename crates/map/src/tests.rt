@@ -1,15 +1,15 @@
 // The tests 1 to 8 of a map, each over all it concerns before the next.
 use super::decode;
+use super::kinds;
 ghost use mathlib.Core.Path.{_≡_};
-ghost use mathlib.Core.Bool.{Bool, true};
+ghost use mathlib.Core.Bool.{true};
 ghost use Prim.Native.Nat.{_+_, _*_, _-_, _<_, _≤_};
-ghost use lib.ListN.{length, getD};
+ghost use lib.ListN.{length};
 ghost use lib.Dec.{eqb, ltb};
-ghost use Rattle.folds.specs.Folds.{_and_, _or_, allBelow};
-ghost use Rattle.circuit.specs.Gate.{lastKind, kindOf, fanInFits};
-ghost use Rattle.map.specs.Map.{gateCount, childCount, codeCount, childrenAt, codesAt, fanIn, fanInsBefore, codeGate};
-ghost use Rattle.map.specs.Check.{offsetsTest, kindFits, kindTest, positionTest, positionsTest, childTest, childrenTest, codeTest, freeTest};
-ghost use Rattle.map.specs.Check.{firstFailed, contentsTests, bodiesTests, mapTests, verdict, Shaped, Placed, Sound, CodeMarks};
+ghost use Rattle.folds.specs.Folds.{_or_, allBelow};
+ghost use Rattle.map.specs.Map.{gateCount, childCount, codeCount, codesAt, fanIn, codeGate};
+ghost use Rattle.map.specs.Check.{offsetsTest, kindTest, positionsTest, childTest, childrenTest, codeTest, freeTest};
+ghost use Rattle.map.specs.Check.{firstFailed, contentsTests, bodiesTests, verdict, Shaped, Placed, Sound, CodeMarks};
 
 // Test 3.
 fn offsets_ok(map: &[u8]) -> bool
@@ -31,24 +31,6 @@ fn offsets_ok(map: &[u8]) -> bool
     map.len() == end
 }
 
-// Test 4 at a gate of this kind and fan-in.
-fn kind_ok(kind: u8, fan: u8) -> bool
-    ensures { λ r. ⌜ r ≡ kindFits kind fan ⌝ }
-{
-    match kind {
-        0 => fan == 0,
-        1 => fan == 1,
-        2 | 3 => {
-            if fan < 2 {
-                return false;
-            }
-            fan <= 8
-        }
-        4 => fan == 2,
-        _ => false,
-    }
-}
-
 // Test 4.
 fn kinds_ok(map: &[u8], gates: usize) -> bool
     requires { ⌜ Shaped (now map) × (gates ≡ gateCount (now map)) ⌝ }
@@ -56,7 +38,7 @@ fn kinds_ok(map: &[u8], gates: usize) -> bool
 {
     let mut g = 0;
     while g < gates {
-        if !kind_ok(map[12 + 4 * g], map[13 + 4 * g]) {
+        if !kinds::fits(map[12 + 4 * g], map[13 + 4 * g]) {
             return false;
         }
         g += 1;

@@ -1,4 +1,3 @@
-pub mod Count
 pub mod Filling
 pub mod Marks
 pub mod Answers

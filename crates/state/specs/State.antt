@@ -1,5 +1,5 @@
 -- Document 01's Evaluate and Mark, on bytes. Assumes nothing.
-use Prim.Native.Nat.{ℕ, _+_, _≤_}
+use Prim.Native.Nat.{ℕ, _≤_}
 use mathlib.Core.Path.{_≡_}
 use mathlib.Core.Logic.{_↔_}
 use mathlib.Core.Bool.{Bool, true, false, cond}
@@ -7,8 +7,6 @@ use mathlib.Core.List.{List, [], _∷_, _++_}
 use lib.ListN.{length, getD, take, drop}
 use lib.Dec.{eqb, leb}
 use Rattle.folds.specs.Folds.{allBelow}
-use Rattle.circuit.specs.Tools.{byte}
-use Rattle.circuit.specs.Gate.{kindOf, gives}
 use Rattle.circuit.specs.Evaluate.{evaluate, mark, Evaluated, Satisfying}
 use Rattle.map.specs.Map.{gateCount, codeCount, codeGate, codeValue, circuit, inputCount}
 use Rattle.map.specs.Check.{firstFailed, mapTests, verdict}
@@ -118,12 +116,3 @@ shownByRecord m s = allBelow (codeCount m) (λ r. eqb (getD s (codeGate m r) 0) 
 -- every byte is 0 or 1
 abbrev pub Bits : List ℕ → Type 0
 Bits s = (i : ℕ) → getD s i 0 ≤ 1
-
--- how many of the values are 1
-abbrev pub countOn : List Bool → ℕ
-countOn [] = 0
-countOn (v ∷ vs) = byte v + countOn vs
-
--- v is what a gate of kind byte k gives to any n values of which `ones` are 1
-abbrev pub GivesBy : ℕ → ℕ → ℕ → Bool → Type 0
-GivesBy k n ones v = (vs : List Bool) → length vs ≡ n → countOn vs ≡ ones → v ≡ gives (kindOf k) vs

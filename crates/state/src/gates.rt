@@ -1,17 +1,14 @@
 // The value that its children give a gate.
 use map::decode;
+use map::kinds;
 ghost use mathlib.Core.Path.{_≡_};
-ghost use mathlib.Core.Bool.{Bool};
-ghost use mathlib.Core.List.{List};
-ghost use Prim.Native.Nat.{_+_, _*_, _<_, _≤_};
-ghost use lib.ListN.{length, getD};
+ghost use Prim.Native.Nat.{_+_, _<_, _≤_};
+ghost use lib.ListN.{length};
 ghost use lib.Dec.{eqb};
 ghost use Rattle.circuit.specs.Tools.{byte, upTo, select};
-ghost use Rattle.circuit.specs.Gate.{kindOf, gives};
 ghost use Rattle.circuit.specs.Circuit.{on, given, justified};
-ghost use Rattle.map.specs.Map.{gateCount, fanIn, kindByte, childAt, circuit};
+ghost use Rattle.map.specs.Map.{gateCount, fanIn, childAt, circuit};
 ghost use Rattle.map.specs.Check.{IsMap};
-ghost use Rattle.state.specs.State.{GivesBy};
 
 // 1 for the byte 1, else 0.
 fn one_bit(b: u8) -> usize
@@ -36,19 +33,6 @@ fn ones(map: &[u8], gates: usize, g: usize, s: &[u8]) -> usize
     count
 }
 
-// What a gate of this kind gives where `ones` of its `fan` children are at 1.
-fn gives(kind: u8, fan: usize, ones: usize) -> bool
-    ensures { λ r. ⌜ GivesBy kind fan ones r ⌝ }
-{
-    match kind {
-        0 => false,
-        1 => ones % 2 == 0,
-        2 => ones == fan,
-        3 => 0 < ones,
-        _ => ones % 2 == 1,
-    }
-}
-
 // Do its children give gate g the value 1?
 pub fn given(map: &[u8], gates: usize, g: usize, s: &[u8]) -> bool
     requires { ⌜ IsMap (now map) × ((gates ≡ gateCount (now map)) × ((g < gates) × (gates ≤ length (now s)))) ⌝ }
@@ -56,7 +40,7 @@ pub fn given(map: &[u8], gates: usize, g: usize, s: &[u8]) -> bool
 {
     let k = decode::kind(map, gates, g);
     let fan = decode::fan_in(map, gates, g);
-    gives(k, fan, ones(map, gates, g, s))
+    kinds::gives(k, fan, ones(map, gates, g, s))
 }
 
 // Is gate g an input, or do its children give its value?

@@ -2,17 +2,18 @@
 use super::Written;
 use super::gates;
 use map::decode;
+use map::kinds;
 ghost use mathlib.Core.Path.{_≡_};
-ghost use mathlib.Core.Bool.{Bool, cond};
-ghost use Prim.Native.Nat.{_+_, _*_, _<_, _≤_};
-ghost use lib.ListN.{length, getD};
+ghost use mathlib.Core.Bool.{cond};
+ghost use Prim.Native.Nat.{_+_, _<_, _≤_};
+ghost use lib.ListN.{length};
 ghost use Rattle.circuit.specs.Tools.{byte};
 ghost use Rattle.circuit.specs.Gate.{kindOf, isInput};
 ghost use Rattle.circuit.specs.Circuit.{on, given};
 ghost use Rattle.circuit.specs.Evaluate.{inputsBefore, evaluate};
 ghost use Rattle.map.specs.Map.{gateCount, kindByte, circuit};
-ghost use Rattle.map.specs.Check.{IsMap, firstFailed};
-ghost use Rattle.state.specs.State.{over, bitsTest, writes, rowTests, rowEvaluation, Bits};
+ghost use Rattle.map.specs.Check.{IsMap};
+ghost use Rattle.state.specs.State.{over, bitsTest, writes, rowEvaluation, Bits};
 
 // A value as a byte.
 fn bit(v: bool) -> u8
@@ -59,7 +60,7 @@ fn fill(map: &[u8], gates: usize, row: &[u8], out: &mut [u8])
     while g < gates {
         let v = gate_value(map, gates, g, row, at, out);
         out[g] = v;
-        at += decode::input_bit(decode::kind(map, gates, g));
+        at += kinds::input_bit(decode::kind(map, gates, g));
         g += 1;
     }
 }

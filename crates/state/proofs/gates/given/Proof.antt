@@ -1,5 +1,5 @@
 use denote.Ref.{now}
-use Rattle.state.proofs.Count.{given-count}
+use Rattle.map.proofs.Count.{given-count}
 use borrow.Author.Needs.{needs}
 use Rattle.state.proofs.gates.given.Statement.{statement}
 use Rattle.state.proofs.gates.given.Tie as tie
@@ -7,7 +7,7 @@ use Rattle.state.proofs.gates.given.Reads as reads
 use Rattle.state.proofs.gates.given.Lts as lts
 use Rattle.map.proofs.decode.fan_in.Reads as fan-in-reads
 use Rattle.map.proofs.decode.kind.Reads as kind-reads
-use Rattle.state.proofs.gates.gives.Reads as gives-reads
+use Rattle.map.proofs.kinds.gives.Reads as gives-reads
 use Rattle.state.proofs.gates.ones.Reads as ones-reads
 
 returns : tie.Need-returns

@@ -15,7 +15,7 @@ use Rattle.state.proofs.values.fill.Statement.{statement}
 use Rattle.state.proofs.values.fill.Tie as tie
 use Rattle.state.proofs.values.fill.Reads as reads
 use Rattle.state.proofs.values.fill.Lts as lts
-use Rattle.map.proofs.decode.input_bit.Reads as input-bit-reads
+use Rattle.map.proofs.kinds.input_bit.Reads as input-bit-reads
 use Rattle.map.proofs.decode.kind.Reads as kind-reads
 use Rattle.state.proofs.values.gate_value.Reads as gate-value-reads
 

@@ -16,8 +16,8 @@ use Rattle.circuit.specs.Gate.{allOn, someOn, oddOn}
 use Rattle.circuit.specs.Circuit.{on, given}
 use Rattle.circuit.proofs.Values.{not-not}
 use Rattle.circuit.proofs.Lists.{length-upTo, map-append, place-more}
 use Rattle.map.specs.Map.{kindByte, fanIn, childAt, kidsOf, circuit}
-use Rattle.state.specs.State.{countOn, GivesBy}
+use Rattle.map.specs.Kinds.{countOn, GivesBy}
 
 -- ---- counting
 

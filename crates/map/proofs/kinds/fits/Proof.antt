@@ -7,10 +7,10 @@ use lib.Dec.{leb}
 use borrow.Author.Tests.{le-leb, lt-leb}
 use Rattle.folds.specs.Folds.{_and_}
 use Rattle.map.specs.Check.{kindFits}
-use Rattle.map.proofs.tests.kind_ok.Statement.{statement}
-use Rattle.map.proofs.tests.kind_ok.Tie as tie
-use Rattle.map.proofs.tests.kind_ok.Reads as reads
-use Rattle.map.proofs.tests.kind_ok.Lts as lts
+use Rattle.map.proofs.kinds.fits.Statement.{statement}
+use Rattle.map.proofs.kinds.fits.Tie as tie
+use Rattle.map.proofs.kinds.fits.Reads as reads
+use Rattle.map.proofs.kinds.fits.Lts as lts
 
 -- the kinds 2 and 3, and those above 4
 many : (k f : ℕ) → (k ≡ 0 → ⊥) → (k ≡ 1 → ⊥) → k < 4 → kindFits k f ≡ leb 2 f and leb f 8
@@ -48,5 +48,5 @@ returns-5 c = rw (many _ _ (search needs) (search needs) (c .before .if1 .taken)
 returns-6 : tie.Need-returns-6
 returns-6 c = sym (other _ _ (c .if1 .left) (search needs))
 
-pub kind-ok-spec : {M : Type 1} → statement M
-kind-ok-spec = tie.close (tie.spec returns returns-2 returns-3 returns-4 returns-5 returns-6)
+pub fits-spec : {M : Type 1} → statement M
+fits-spec = tie.close (tie.spec returns returns-2 returns-3 returns-4 returns-5 returns-6)

@@ -1,0 +1,45 @@
+// All that the code of these crates knows of single kinds of gate, by their bytes: 0 input, 1 NOT, 2 AND, 3 OR, 4 XOR.
+ghost use mathlib.Core.Path.{_≡_};
+ghost use Prim.Native.Nat.{_≤_};
+ghost use Rattle.circuit.specs.Tools.{byte};
+ghost use Rattle.circuit.specs.Gate.{kindOf, isInput};
+ghost use Rattle.map.specs.Check.{kindFits};
+ghost use Rattle.map.specs.Kinds.{GivesBy};
+
+// 1 for an input's kind byte, else 0.
+pub fn input_bit(kind: u8) -> usize
+    ensures { λ r. ⌜ (r ≡ byte (isInput (kindOf kind))) × (r ≤ 1) ⌝ }
+{
+    if kind == 0 { 1 } else { 0 }
+}
+
+// Test 4: is this a kind, and the fan-in allowed for it?
+pub fn fits(kind: u8, fan: u8) -> bool
+    ensures { λ r. ⌜ r ≡ kindFits kind fan ⌝ }
+{
+    match kind {
+        0 => fan == 0,
+        1 => fan == 1,
+        2 | 3 => {
+            if fan < 2 {
+                return false;
+            }
+            fan <= 8
+        }
+        4 => fan == 2,
+        _ => false,
+    }
+}
+
+// What a gate of this kind gives where `ones` of its `fan` children are at 1.
+pub fn gives(kind: u8, fan: usize, ones: usize) -> bool
+    ensures { λ r. ⌜ GivesBy kind fan ones r ⌝ }
+{
+    match kind {
+        0 => false,
+        1 => ones % 2 == 0,
+        2 => ones == fan,
+        3 => 0 < ones,
+        _ => ones % 2 == 1,
+    }
+}
