@@ -17,28 +17,16 @@ Inv-loop map gates g₀ g = (g ≤ gates) × (allBelow g (childrenTest map) ≡ 
 abbrev μ-loop : tie.MeasureT-loop
 μ-loop map gates g₀ g = gates - g
 
-loop-holds : tie.Need-loop-holds Inv-loop μ-loop
-loop-holds c = search (needs, loops-of)
-
-returns : tie.Need-returns Inv-loop μ-loop
-returns c = search (needs, loops-of)
-
-loop-again : tie.Need-loop-again Inv-loop μ-loop
-loop-again c = search (needs, loops-of)
-
-returns-2 : tie.Need-returns-2 Inv-loop μ-loop
-returns-2 c = search (needs, loops-of)
-
 pub all-children-ok-spec : {M : Type 1} → statement M
 all-children-ok-spec =
     tie.close
     (tie.spec
     Inv-loop
     μ-loop
-    loop-holds
+    (λ c. search (needs, loops-of))
     (λ c κs. search needs)
-    returns
+    (λ c. search (needs, loops-of))
     (λ c. search needs)
     (λ c. search needs)
-    loop-again
-    returns-2)
+    (λ c. search (needs, loops-of))
+    (λ c. search (needs, loops-of)))

@@ -18,15 +18,9 @@ Inv-loop map gates g f j₀ j = (j ≤ f) × (allBelow j (childTest map g) ≡ t
 abbrev μ-loop : tie.MeasureT-loop
 μ-loop map gates g f j₀ j = f - j
 
-loop-holds : tie.Need-loop-holds Inv-loop μ-loop
-loop-holds c = search (needs, loops)
-
 returns : tie.Need-returns Inv-loop μ-loop
 unfolding childrenTest
 returns c = rw (← c .before .before .before .before .wide .ensures .0) (search (needs, loops))
-
-loop-again : tie.Need-loop-again Inv-loop μ-loop
-loop-again c = search (needs, loops)
 
 returns-2 : tie.Need-returns-2 Inv-loop μ-loop
 unfolding childrenTest
@@ -42,10 +36,10 @@ children-ok-spec =
     (λ c. search needs)
     (λ c. search needs)
     (λ c κs. search needs)
-    loop-holds
+    (λ c. search (needs, loops))
     (λ c κs. search needs)
     returns
     (λ c. search needs)
     (λ c. search needs)
-    loop-again
+    (λ c. search (needs, loops))
     returns-2)

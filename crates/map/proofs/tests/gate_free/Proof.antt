@@ -26,9 +26,6 @@ Inv-loop map gates g marks f j₀ j = (j ≤ f) × (allBelow j (λ i. not (coded
 abbrev μ-loop : tie.MeasureT-loop
 μ-loop map gates g marks f j₀ j = f - j
 
-loop-holds : tie.Need-loop-holds Inv-loop μ-loop
-loop-holds c = search (needs, loops)
-
 shared-slice-read-if1 : tie.Need-shared-slice-read-if1 Inv-loop μ-loop
 shared-slice-read-if1 c = let s = c .before .before .before .before .before .before .before .before in
     let l = c .before .before .before in
@@ -59,7 +56,7 @@ gate-free-spec =
     (λ c. search needs)
     (λ c. search needs)
     (λ c κs. search needs)
-    loop-holds
+    (λ c. search (needs, loops))
     (λ c κs. search needs)
     shared-slice-read-if1
     returns

@@ -17,9 +17,6 @@ Inv-loop map gates g₀ g = (g ≤ gates) × (allBelow g (kindTest map) ≡ true
 abbrev μ-loop : tie.MeasureT-loop
 μ-loop map gates g₀ g = gates - g
 
-loop-holds : tie.Need-loop-holds Inv-loop μ-loop
-loop-holds c = search (needs, loops-of)
-
 returns : tie.Need-returns Inv-loop μ-loop
 unfolding kindTest
 returns c = search (needs, loops-of)
@@ -28,16 +25,13 @@ loop-again : tie.Need-loop-again Inv-loop μ-loop
 unfolding kindTest
 loop-again c = search (needs, loops-of)
 
-returns-2 : tie.Need-returns-2 Inv-loop μ-loop
-returns-2 c = search (needs, loops-of)
-
 pub kinds-ok-spec : {M : Type 1} → statement M
 kinds-ok-spec =
     tie.close
     (tie.spec
     Inv-loop
     μ-loop
-    loop-holds
+    (λ c. search (needs, loops-of))
     (λ c. search needs)
     (λ c. search needs)
     (λ c. search needs)
@@ -49,4 +43,4 @@ kinds-ok-spec =
     (λ c. search needs)
     (λ c. search needs)
     loop-again
-    returns-2)
+    (λ c. search (needs, loops-of)))

@@ -24,9 +24,6 @@ Inv-loop map start codes s r₀ r = (r ≤ codes) × (allBelow r (λ i. eqb (get
 abbrev μ-loop : tie.MeasureT-loop
 μ-loop map start codes s r₀ r = codes - r
 
-loop-holds : tie.Need-loop-holds Inv-loop μ-loop
-loop-holds c = search (needs, loops-of)
-
 returns : tie.Need-returns Inv-loop μ-loop
 unfolding shownByRecord
 returns c = let l = c .before .before .before .loop in sym (all-fails _ _ (l .r) (omega arith) (flag-false _ _ (c .if1 .taken) (c .before .code-shown .ensures)))
@@ -44,7 +41,7 @@ codes-shown-spec =
     (tie.spec
     Inv-loop
     μ-loop
-    loop-holds
+    (λ c. search (needs, loops-of))
     (λ c κs. search needs)
     returns
     (λ c. search needs)

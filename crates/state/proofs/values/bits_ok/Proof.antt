@@ -20,9 +20,6 @@ Inv-loop s n i₀ i = (i ≤ n) × (allBelow i (λ j. leb (getD s j 0) 1) ≡ tr
 abbrev μ-loop : tie.MeasureT-loop
 μ-loop s n i₀ i = n - i
 
-loop-holds : tie.Need-loop-holds Inv-loop μ-loop
-loop-holds c = search (needs, loops-of)
-
 returns : tie.Need-returns Inv-loop μ-loop
 unfolding bitsTest
 returns c = search (needs, loops-of, le-leb, lt-leb)
@@ -40,7 +37,7 @@ bits-ok-spec =
     (tie.spec
     Inv-loop
     μ-loop
-    loop-holds
+    (λ c. search (needs, loops-of))
     (λ c. search needs)
     returns
     (λ c. search needs)
