@@ -1,4 +1,4 @@
-//! The engine "by other hands": check, children, evaluate and mark, written
+//! The independent engine: check, children, evaluate and mark, written
 //! straight from document 01 and from nothing else.
 //!
 //! It is slow and plain on purpose. Every offset, count and length is a whole

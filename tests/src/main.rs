@@ -1,4 +1,4 @@
-//! Case files and expected answers for tests against the engine by other hands.
+//! Case files and their lines, to hold the proved engine against this independent one.
 //!
 //!     peeriewick-tests fixed            the fixed cases, as a case file
 //!     peeriewick-tests names            their names in order, one per line
