@@ -4,3 +4,4 @@ pub mod Parts
 pub mod Answers
 pub mod Codes
 pub mod Count
+pub mod Bench

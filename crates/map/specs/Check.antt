@@ -118,7 +118,7 @@ pub record Sound (m : List ℕ) : Type 0 where
   pub below : (g j : ℕ) → g < gateCount m → j < fanIn m g → childAt m g j < g
   pub coded-gate : (r : ℕ) → r < codeCount m → codeGate m r < gateCount m
 
--- and of 2, 4 and 8: the facts of an accepted map that inner functions go by
+-- and of 2, 4, 8 and the rest of 6 and 7: the facts of an accepted map that inner functions go by (`verdict` says more)
 pub record IsMap (m : List ℕ) : Type 0 where
   pub sound : Sound m
   pub some-gate : 1 ≤ gateCount m

@@ -2,3 +2,4 @@ pub mod Filling
 pub mod Marks
 pub mod Answers
 pub mod Meaning
+pub mod Bench

@@ -1,0 +1,43 @@
+-- The examples, computed. Assumes nothing.
+use Prim.Native.Nat.{ℕ}
+use mathlib.Core.Path.{refl}
+use Rattle.folds.specs.Folds.{_and_, _or_, allBelow}
+use Rattle.circuit.specs.Evaluate.{inputsBefore}
+use Rattle.circuit.specs.Bench.{adder}
+use Rattle.map.specs.Map.{u16At, fanInsBefore, codeAmong, kidsOf}
+use Rattle.map.specs.Check.{offsetsTest, kindFits, kindTest, positionTest, positionsTest, childTest, childrenTest, codeTest, freeTest, firstFailed, contentsTests, bodiesTests, mapTests, verdict, checked}
+use Rattle.map.specs.Children.{hasGate, stretchAt, stretchLength}
+use Rattle.map.specs.Bench.{adderBytes, Examples}
+
+-- every definition that the examples compute with, under one name
+opened : ℕ
+unfolding _and_ _or_ allBelow inputsBefore adder u16At fanInsBefore codeAmong kidsOf offsetsTest kindFits kindTest positionTest positionsTest childTest childrenTest codeTest freeTest firstFailed contentsTests bodiesTests mapTests verdict checked hasGate stretchAt stretchLength adderBytes
+opened = 0
+
+pub examples : Examples
+unfolding opened
+examples = record {
+  bytes = refl;
+  counts = refl;
+  decoded = record { gates = refl; kinds = refl; kids = refl; codes = refl };
+  short = refl;
+  no-gate = refl;
+  many-gates = (refl, refl);
+  offsets = (refl, (refl, refl));
+  long = refl;
+  wraps = refl;
+  kind-5 = refl;
+  fan-ins = (refl, refl);
+  position = refl;
+  kind-first = refl;
+  total = refl;
+  equal = refl;
+  falling = refl;
+  itself = refl;
+  code-gate = refl;
+  code-value = refl;
+  code-zero = refl;
+  coded-child = (refl, refl);
+  stretch = (refl, refl);
+  empty = (refl, (refl, refl));
+}
