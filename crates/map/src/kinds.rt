@@ -1,4 +1,4 @@
-// All that the code of these crates knows of single kinds of gate, by their bytes: 0 input, 1 NOT, 2 AND, 3 OR, 4 XOR.
+// What the code of these crates knows of single kinds of gate, by their bytes: 0 input, 1 NOT, 2 AND, 3 OR, 4 XOR. (Others test for an input's 0 only.)
 ghost use mathlib.Core.Path.{_≡_};
 ghost use Prim.Native.Nat.{_≤_};
 ghost use Rattle.circuit.specs.Tools.{byte};
