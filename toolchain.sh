@@ -16,7 +16,7 @@ need_cargo() {
         (apt-get update && apt-get install -y cargo) >/dev/null 2>&1 || true
     fi
     if ! command -v cargo >/dev/null 2>&1; then
-        echo "cargo is missing: install Rust 1.65 or later" >&2
+        echo "cargo is missing: install Rust 1.63 or later" >&2
         exit 2
     fi
 }
