@@ -1,4 +1,4 @@
-//! The independent engine: check, children, evaluate and mark, written
+//! The independent engine: check, children, evaluate, mark and survey, written
 //! straight from document 01 and from nothing else.
 //!
 //! It is slow and plain on purpose. Every offset, count and length is a whole
@@ -388,4 +388,149 @@ pub fn mark(map: &[u8], configuration: &[u8]) -> Result<bool, u8> {
         }
     }
     Ok(true)
+}
+
+/// "11. For Survey, Move and Run: a coded gate's value isn't its code."
+/// Only asked once tests 9 and 10 are passed.
+fn fails_11(map: &[u8], configuration: &[u8]) -> bool {
+    for code in code_records(map) {
+        if configuration[code.gate as usize] != code.value {
+            return true;
+        }
+    }
+    false
+}
+
+/// "A gate is justified if it is an input or its children give its value."
+fn justified(gate: &GateRecord, value: u8, all_children: &[u64], configuration: &[u8]) -> bool {
+    if gate.kind == INPUT {
+        return true;
+    }
+    given(gate.kind, &child_values_of(gate, all_children, configuration)) == value
+}
+
+/// The numbers of a gate's children, in order.
+fn children_of(gate: &GateRecord, all_children: &[u64]) -> Vec<u64> {
+    let mut list = Vec::new();
+    for place in gate.first..gate.first + gate.fan_in {
+        list.push(all_children[place as usize]);
+    }
+    list
+}
+
+/// Those of the children that are at `value`.
+fn children_at(value: u8, children: &[u64], configuration: &[u8]) -> Vec<u64> {
+    let mut list = Vec::new();
+    for child in children {
+        if configuration[*child as usize] == value {
+            list.push(*child);
+        }
+    }
+    list
+}
+
+/// "The parts of a subset-minimal justification that agree with the
+/// configuration are: AND at 1 and OR at 0, all children; AND at 0, each child
+/// at 0; OR at 1, each child at 1; NOT, its child; XOR, both." An input has
+/// none. Only asked for justified gates.
+fn parts(gate: &GateRecord, value: u8, all_children: &[u64], configuration: &[u8]) -> Vec<u64> {
+    let children = children_of(gate, all_children);
+    match (gate.kind, value) {
+        (AND, 1) | (OR, 0) => children,
+        (AND, 0) => children_at(0, &children, configuration),
+        (OR, 1) => children_at(1, &children, configuration),
+        (NOT, _) | (XOR, _) => children,
+        _ => Vec::new(),
+    }
+}
+
+/// "The cone is the smallest set that has every coded gate and, for each
+/// justified gate in it, these children." One yes or no for each gate. Gates
+/// are taken in only where the set must have them, until nothing changes.
+fn cone_of(map: &[u8], configuration: &[u8]) -> Vec<bool> {
+    let gates = gate_records(map);
+    let all_children = child_records(map);
+    let mut cone = vec![false; gates.len()];
+    for code in code_records(map) {
+        cone[code.gate as usize] = true;
+    }
+    let mut changed = true;
+    while changed {
+        changed = false;
+        for (number, gate) in gates.iter().enumerate() {
+            let value = configuration[number];
+            if !cone[number] || !justified(gate, value, &all_children, configuration) {
+                continue;
+            }
+            for child in parts(gate, value, &all_children, configuration) {
+                if !cone[child as usize] {
+                    cone[child as usize] = true;
+                    changed = true;
+                }
+            }
+        }
+    }
+    cone
+}
+
+/// "The front is the cone's unjustified gates."
+fn front_of(map: &[u8], configuration: &[u8], cone: &[bool]) -> Vec<bool> {
+    let all_children = child_records(map);
+    let mut front = Vec::new();
+    for (number, gate) in gate_records(map).iter().enumerate() {
+        let value = configuration[number];
+        front.push(cone[number] && !justified(gate, value, &all_children, configuration));
+    }
+    front
+}
+
+/// "Interesting gates are the front and all descendants of its gates (their
+/// children, those gates' children and so on); NOT gates count like others".
+fn interest_of(map: &[u8], front: &[bool]) -> Vec<bool> {
+    let gates = gate_records(map);
+    let all_children = child_records(map);
+    let mut interest = front.to_vec();
+    let mut waiting: Vec<usize> = (0..gates.len()).filter(|g| front[*g]).collect();
+    while let Some(number) = waiting.pop() {
+        for child in children_of(&gates[number], &all_children) {
+            if !interest[child as usize] {
+                interest[child as usize] = true;
+                waiting.push(child as usize);
+            }
+        }
+    }
+    interest
+}
+
+/// How many gates a set has.
+fn size_of(set: &[bool]) -> u64 {
+    set.iter().filter(|member| **member).count() as u64
+}
+
+/// "**Survey** writes one byte per gate: 1 if in the cone, plus 2 if in the
+/// front, plus 4 if interesting, and returns the sizes of front and interest
+/// set." Numbers 1 to 11 and 14 apply, in that order; a declined call "leaves
+/// all lent memory untouched", and of longer memory "the surplus is never
+/// touched."
+pub fn survey(map: &[u8], configuration: &[u8], output: &mut [u8]) -> Result<(u64, u64), u8> {
+    let counts = check(map)?;
+    if configuration.len() as u64 != counts.gates {
+        return Err(9);
+    }
+    if fails_10(configuration) {
+        return Err(10);
+    }
+    if fails_11(map, configuration) {
+        return Err(11);
+    }
+    if (output.len() as u64) < counts.gates {
+        return Err(14);
+    }
+    let cone = cone_of(map, configuration);
+    let front = front_of(map, configuration, &cone);
+    let interest = interest_of(map, &front);
+    for gate in 0..counts.gates as usize {
+        output[gate] = cone[gate] as u8 + 2 * front[gate] as u8 + 4 * interest[gate] as u8;
+    }
+    Ok((size_of(&front), size_of(&interest)))
 }

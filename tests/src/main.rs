@@ -120,6 +120,30 @@ mod tests {
     }
 
     #[test]
+    fn p1_survey_of_a() {
+        let mut output = [170; 9];
+        assert_eq!(survey(&ADDER, &[0, 0, 1, 1, 0, 1, 0, 1], &mut output), Ok((1, 3)));
+        assert_eq!(output, [4, 4, 1, 7, 0, 1, 0, 1, 170]);
+    }
+
+    #[test]
+    fn p2_survey_of_b() {
+        let mut output = [170; 8];
+        assert_eq!(survey(&ADDER, &[1, 1, 1, 1, 1, 0, 0, 1], &mut output), Ok((0, 0)));
+        assert_eq!(output, [1, 1, 0, 0, 1, 0, 0, 1]);
+    }
+
+    /// P5 and P6 name a survey or sizes of the configurations they end with.
+    #[test]
+    fn surveys_of_p5_and_p6() {
+        let mut output = [170; 8];
+        assert_eq!(survey(&ADDER, &[0, 0, 1, 0, 0, 1, 0, 1], &mut output), Ok((1, 5)));
+        assert_eq!(output, [4, 4, 4, 4, 0, 7, 0, 1]);
+        let turned = [0, 0, 1, 0, 1, 0, 0, 1];
+        assert_eq!(survey(&ADDER, &turned, &mut output), Ok((1, 3)));
+    }
+
+    #[test]
     fn declined_calls_leave_the_memory() {
         let mut output = [170; 7];
         assert_eq!(evaluate(&ADDER, &[1, 0, 1], &mut output), Err(14));
@@ -127,6 +151,17 @@ mod tests {
         assert_eq!(evaluate(&ADDER, &[1, 0, 2], &mut output), Err(10));
         assert_eq!(evaluate(&ADDER, &[1, 0, 2, 0], &mut output), Err(9));
         assert_eq!(evaluate(&ADDER[..67], &[1, 0, 2, 0], &mut output), Err(3));
+        assert_eq!(output, [170; 7]);
+    }
+
+    #[test]
+    fn declined_surveys_leave_the_memory() {
+        let mut output = [170; 7];
+        assert_eq!(survey(&ADDER, &[0, 0, 1, 1, 0, 1, 0, 1], &mut output), Err(14));
+        assert_eq!(survey(&ADDER, &[0, 0, 1, 1, 0, 1, 0, 0], &mut output), Err(11));
+        assert_eq!(survey(&ADDER, &[2, 0, 1, 1, 0, 1, 0, 0], &mut output), Err(10));
+        assert_eq!(survey(&ADDER, &[2, 0, 1, 1, 0, 1, 0], &mut output), Err(9));
+        assert_eq!(survey(&ADDER[..67], &[2, 0, 1, 1, 0, 1, 0], &mut output), Err(3));
         assert_eq!(output, [170; 7]);
     }
 
@@ -169,7 +204,7 @@ mod tests {
         assert_eq!(names.len(), list.len());
         let bytes = file(list.iter().map(|named| &named.case));
         println!("{} fixed cases, {} bytes", list.len(), bytes.len());
-        assert!(bytes.len() < 200_000);
+        assert!(bytes.len() < 250_000);
         let back = parse(&bytes).unwrap();
         assert_eq!(back.len(), list.len());
         assert!(back.iter().zip(&list).all(|(case, named)| *case == named.case));
@@ -189,6 +224,7 @@ mod tests {
         assert_eq!(of(b'c'), (1..=8).collect());
         assert_eq!(of(b'e'), (1..=10).chain([14]).collect());
         assert_eq!(of(b'm'), (1..=10).collect());
+        assert_eq!(of(b's'), (1..=11).chain([14]).collect());
     }
 
     #[test]
@@ -196,13 +232,46 @@ mod tests {
         let cases = random(1, 500);
         assert!(cases.len() >= 400, "only {} cases fit", cases.len());
         let lines: Vec<String> = cases.iter().map(answer).collect();
-        assert_eq!(numbers(lines.iter()), (1..=10).chain([14]).collect());
-        for word in ["OK ", "DONE ", "YES", "NO", "CHILDREN "] {
+        assert_eq!(numbers(lines.iter()), (1..=11).chain([14]).collect());
+        for word in ["OK ", "DONE ", "YES", "NO", "CHILDREN ", "SIZES "] {
             let count = lines.iter().filter(|line| line.starts_with(word)).count();
             assert!(count >= 15, "{word}: {count}");
         }
         let declined = lines.iter().filter(|line| line.starts_with("REFUSED")).count();
         assert!(2 * declined < cases.len());
+    }
+
+    /// The surveys among random cases meet every byte and fronts of all sorts.
+    #[test]
+    fn random_surveys_are_not_bare() {
+        let surveys: Vec<Case> = (0..4)
+            .flat_map(|seed| random(seed, 500))
+            .filter(|case| case.op == b's')
+            .collect();
+        let lines: Vec<String> = surveys.iter().map(answer).collect();
+        assert_eq!(numbers(lines.iter()), (1..=11).chain([14]).collect());
+        let (mut none, mut one, mut more) = (0, 0, 0);
+        let mut with_byte = [0; 8];
+        for case in &surveys {
+            let mut memory = [170; ROOM_LIMIT];
+            if let Ok((front, _)) = survey(&case.map, &case.body, &mut memory) {
+                match front {
+                    0 => none += 1,
+                    1 => one += 1,
+                    _ => more += 1,
+                }
+                for (byte, count) in with_byte.iter_mut().enumerate() {
+                    *count += memory.contains(&(byte as u8)) as u32;
+                }
+            }
+        }
+        println!("{} surveys, fronts: {none} none, {one} one, {more} more; bytes {with_byte:?}", surveys.len());
+        assert!(none >= 30 && one >= 30 && more >= 30);
+        for byte in [0, 1, 4, 5, 7] {
+            assert!(with_byte[byte] >= 30, "byte {byte}: {}", with_byte[byte]);
+        }
+        // The front is in the cone and interesting, so no other byte can come.
+        assert_eq!((with_byte[2], with_byte[3], with_byte[6]), (0, 0, 0));
     }
 
     #[test]

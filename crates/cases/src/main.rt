@@ -1,10 +1,11 @@
-// Runs framed cases from standard input through Check, Children, Evaluate and Mark, and prints a line for each.
+// Runs framed cases from standard input through Check, Children, Evaluate, Mark and Survey, and prints a line for each.
 // A case: an op byte, three u16 (the lengths of the map, of the body and of the output memory), the map, the body.
 use libc::STDIN_FILENO;
 use libc::STDOUT_FILENO;
 use map::Checked;
 use state::Marked;
 use state::Written;
+use survey::Surveyed;
 ghost use Prim.Native.Nat.{_≤_};
 
 fn print_number(n: usize) {
@@ -59,6 +60,39 @@ fn children(map: &[u8], body: &[u8]) {
     }
 }
 
+fn evaluate(map: &[u8], row: &[u8], out: &mut [u8]) {
+    match state::evaluate(map, row, out) {
+        Written::Done => {
+            io::write_all(STDOUT_FILENO, b"DONE");
+        }
+        Written::Refused(k) => print_refused(k),
+    }
+}
+
+fn survey(map: &[u8], configuration: &[u8], out: &mut [u8]) {
+    match survey::survey(map, configuration, out) {
+        Surveyed::Done(sizes) => {
+            io::write_all(STDOUT_FILENO, b"SIZES");
+            print_number(sizes.front as usize);
+            print_number(sizes.interest as usize);
+        }
+        Surveyed::Refused(k) => print_refused(k),
+    }
+}
+
+fn call(op: u8, map: &[u8], body: &[u8], out: &mut [u8]) {
+    if op == b'e' {
+        evaluate(map, body, out);
+        return;
+    }
+    survey(map, body, out);
+}
+
+fn write_into(op: u8, map: &[u8], body: &[u8], out: &mut [u8]) {
+    call(op, map, body, out);
+    print_memory(out);
+}
+
 fn at_most_2048(n: usize) -> usize
     ensures { λ r. ⌜ r ≤ 2048 ⌝ }
 {
@@ -68,20 +102,11 @@ fn at_most_2048(n: usize) -> usize
     n
 }
 
-fn evaluate_into(map: &[u8], row: &[u8], out: &mut [u8]) {
-    match state::evaluate(map, row, out) {
-        Written::Done => {
-            io::write_all(STDOUT_FILENO, b"DONE");
-        }
-        Written::Refused(k) => print_refused(k),
-    }
-    print_memory(out);
-}
-
-fn evaluate(map: &[u8], row: &[u8], room: usize) {
+// A call that writes, into lent memory of which every byte is 170.
+fn write(op: u8, map: &[u8], body: &[u8], room: usize) {
     let mut memory = [170u8; 2048];
     let n = at_most_2048(room);
-    evaluate_into(map, row, &mut memory[..n]);
+    write_into(op, map, body, &mut memory[..n]);
 }
 
 fn mark(map: &[u8], configuration: &[u8]) {
@@ -100,7 +125,7 @@ fn one_case(op: u8, map: &[u8], body: &[u8], room: usize) {
     match op {
         b'c' => check(map),
         b'k' => children(map, body),
-        b'e' => evaluate(map, body, room),
+        b'e' | b's' => write(op, map, body, room),
         _ => mark(map, body),
     }
     io::write_all(STDOUT_FILENO, b"\n");

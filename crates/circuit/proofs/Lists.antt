@@ -235,7 +235,7 @@ map-at f (suc n) i d h = rw (map-append f (upTo n) (n ∷ [])) (elim (which (eqb
 
 -- ---- the numbers below n of which p holds, and the place of each among them
 
-select-append : {A : Type 0} (p : A → Bool) (xs ys : List A) → select p (xs ++ ys) ≡ select p xs ++ select p ys
+pub select-append : {A : Type 0} (p : A → Bool) (xs ys : List A) → select p (xs ++ ys) ≡ select p xs ++ select p ys
 select-append p [] ys = refl
 select-append p (x ∷ xs) ys = elim (which (p x)) [
   | inl q ↦ rw q (ap (λ (l : List _). x ∷ l) (select-append p xs ys))

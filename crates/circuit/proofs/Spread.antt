@@ -2,7 +2,7 @@
 use Prim.Native.Nat.{ℕ, zero, suc, _≤_, _<_}
 use mathlib.Core.Path.{_≡_, refl, sym, _∙_}
 use mathlib.Core.Logic.{inl, inr}
-use mathlib.Core.Bool.{Bool, true}
+use mathlib.Core.Bool.{Bool, true, false}
 use mathlib.Core.List.{List, List·Memᴰ as In}
 use native.Mathlib.Omega.{arith}
 use lib.Dec.{eqb}
@@ -15,10 +15,10 @@ use Rattle.circuit.proofs.Lists.{member-in, in-member}
 
 module _ (brings : ℕ → List ℕ) where
   -- a gate's turn
-  abbrev once : ℕ → (ℕ → Bool) → ℕ → Bool
+  abbrev pub once : ℕ → (ℕ → Bool) → ℕ → Bool
   once g m x = m x or (member x (brings g) and m g)
 
-  spread-more : (g : ℕ) (m : ℕ → Bool) → spread brings (suc g) m ≡ spread brings g (once g m)
+  pub spread-more : (g : ℕ) (m : ℕ → Bool) → spread brings (suc g) m ≡ spread brings g (once g m)
   unfolding spread descend
   spread-more g m = refl
 
@@ -42,25 +42,31 @@ module _ (brings : ℕ → List ℕ) where
       (λ k h. step k (omega arith)) x (rw (spread-more g m) at e)
 
   module _ (top : ℕ) (below : (g : ℕ) → g < top → (x : ℕ) → In x (brings g) → x < g) where
+    -- a gate brings none that stands at or above it
+    pub not-brought : (g : ℕ) → g < top → (x : ℕ) → g ≤ x → member x (brings g) ≡ false
+    not-brought g l x h = elim (which (member x (brings g))) [
+      | inl q ↦ absurd (omega (arith, below g l x (member-in x (brings g) q)))
+      | inr q ↦ q
+    ]
+
     -- what stands at or above the gates still to come stays as it is
     spread-high : (n : ℕ) → n ≤ top → (m : ℕ → Bool) (x : ℕ) → n ≤ x → spread brings n m x ≡ m x
     spread-high zero l m x h = rw spread-none
     spread-high (suc g) l m x h =
-        rw (spread-more g m) (spread-high g (omega arith) (once g m) x (omega arith) ∙ or-none _ _ (elim (which (member x (brings g))) [
-          | inl q ↦ absurd (omega (arith, below g (omega arith) x (member-in x (brings g) q)))
-          | inr q ↦ and-first-false _ _ q
-        ]))
+        rw (spread-more g m) (spread-high g (omega arith) (once g m) x (omega arith) ∙ or-none _ _ (and-first-false _ _ (not-brought g (omega arith) x (omega arith))))
+
+    -- and so does the gate whose turn it is
+    pub spread-settled : (g : ℕ) → g < top → (m : ℕ → Bool) → spread brings (suc g) m g ≡ m g
+    spread-settled g l m =
+        rw (spread-more g m) (spread-high g (omega arith) (once g m) g (omega arith) ∙ or-none _ _ (and-first-false _ _ (not-brought g l g (omega arith))))
 
     spread-closed-to : (n : ℕ) → n ≤ top → (m : ℕ → Bool) (g : ℕ) → g < n → spread brings n m g ≡ true → (x : ℕ) → In x (brings g) → spread brings n m x ≡ true
     spread-closed-to zero l m g h e x i = absurd (omega arith)
     spread-closed-to (suc k) l m g h e x i = elim (which (eqb g k)) [
       | inl q ↦ rw (spread-more k m) (spread-start k (once k m) x (or-second _ _ (and-both _ _
-          (in-member x (brings k) (rw (eqb-true g k q) at i)) (had (rw (eqb-true g k q, spread-more k m) at e)))))
+          (in-member x (brings k) (rw (eqb-true g k q) at i)) (sym (spread-settled k l m) ∙ rw (eqb-true g k q) at e))))
       | inr q ↦ rw (spread-more k m) (spread-closed-to k (omega arith) (once k m) g (omega (arith, eqb-false g k q)) (rw (spread-more k m) at e) x i)
     ]
-      where
-        had : spread brings k (once k m) k ≡ true → m k ≡ true
-        had t = elim (or-cases _ _ (sym (spread-high k (omega arith) (once k m) k (omega arith)) ∙ t)) [ inl a ↦ a | inr b ↦ and-right _ _ b ]
 
     pub spread-closed : (m : ℕ → Bool) (g : ℕ) → g < top → spread brings top m g ≡ true → (x : ℕ) → In x (brings g) → spread brings top m x ≡ true
     spread-closed = spread-closed-to top (omega arith)

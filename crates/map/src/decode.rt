@@ -7,7 +7,7 @@ ghost use lib.ListN.{length};
 ghost use Rattle.circuit.specs.Tools.{byte};
 ghost use Rattle.circuit.specs.Evaluate.{inputsBefore};
 ghost use Rattle.map.specs.Map.{u16At, gateCount, codeCount, codesAt, kindByte, fanIn, childAt, codeGate, circuit};
-ghost use Rattle.map.specs.Check.{Shaped, Placed, countsOf};
+ghost use Rattle.map.specs.Check.{Shaped, Placed, Sound, countsOf, CodeMarks};
 
 // A byte as a number of any size.
 pub fn wide(b: u8) -> usize
@@ -39,6 +39,20 @@ pub fn code_gate(map: &[u8], start: usize, r: usize) -> usize
     ensures { λ r'. ⌜ (r' ≡ codeGate (now (map .entry)) r) × (r' < 65536) ⌝ }
 {
     word(map, start + 4 * r)
+}
+
+// Marks the coded gates with 1, in marks that are all 0.
+pub fn mark_codes(map: &[u8], start: usize, codes: usize, marks: &mut [u8])
+    requires { ⌜ Sound (now map) × ((start ≡ codesAt (now map)) × (codes ≡ codeCount (now map))) ⌝ }
+    requires { ⌜ (gateCount (now map) ≤ length (now marks)) × CodeMarks (now map) 0 (now marks) ⌝ }
+    ensures { λ _. ⌜ CodeMarks (now (map .entry)) (codeCount (now (map .entry))) (now (marks .exit)) ⌝ }
+{
+    let mut r = 0;
+    while r < codes {
+        let x = code_gate(map, start, r);
+        marks[x] = 1;
+        r += 1;
+    }
 }
 
 // The number of inputs.

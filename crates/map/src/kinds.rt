@@ -2,7 +2,7 @@
 ghost use mathlib.Core.Path.{_≡_};
 ghost use Prim.Native.Nat.{_≤_};
 ghost use Rattle.circuit.specs.Tools.{byte};
-ghost use Rattle.circuit.specs.Gate.{kindOf, isInput};
+ghost use Rattle.circuit.specs.Gate.{kindOf, isInput, relevant};
 ghost use Rattle.map.specs.Check.{kindFits};
 ghost use Rattle.map.specs.Kinds.{GivesBy};
 
@@ -41,5 +41,17 @@ pub fn gives(kind: u8, fan: usize, ones: usize) -> bool
         2 => ones == fan,
         3 => 0 < ones,
         _ => ones % 2 == 1,
+    }
+}
+
+// Is a child with value x relevant to a justified gate of this kind with value v?
+pub fn relevant(kind: u8, v: bool, x: bool) -> bool
+    ensures { λ r. ⌜ r ≡ relevant (kindOf kind) v x ⌝ }
+{
+    match kind {
+        0 => false,
+        2 => if v { true } else { !x },
+        3 => if v { x } else { true },
+        _ => true,
     }
 }

@@ -154,20 +154,6 @@ fn codes_ok(map: &[u8], gates: usize, start: usize, codes: usize) -> bool
     true
 }
 
-// Marks the coded gates.
-fn mark_codes(map: &[u8], start: usize, codes: usize, marks: &mut [u8])
-    requires { ⌜ Sound (now map) × ((start ≡ codesAt (now map)) × (codes ≡ codeCount (now map))) ⌝ }
-    requires { ⌜ (1024 ≤ length (now marks)) × CodeMarks (now map) 0 (now marks) ⌝ }
-    ensures { λ _. ⌜ CodeMarks (now (map .entry)) (codeCount (now (map .entry))) (now (marks .exit)) ⌝ }
-{
-    let mut r = 0;
-    while r < codes {
-        let x = decode::code_gate(map, start, r);
-        marks[x] = 1;
-        r += 1;
-    }
-}
-
 // Test 8 at gate g.
 fn gate_free(map: &[u8], gates: usize, g: usize, marks: &[u8]) -> bool
     requires { ⌜ Sound (now map) × ((gates ≡ gateCount (now map)) × (g < gates)) ⌝ }
@@ -208,7 +194,7 @@ fn free_ok(map: &[u8], gates: usize, start: usize, codes: usize) -> bool
     ensures { λ r. ⌜ r ≡ allBelow (gateCount (now (map .entry))) (freeTest (now (map .entry))) ⌝ }
 {
     let mut marks = [0u8; 1024];
-    mark_codes(map, start, codes, &mut marks);
+    decode::mark_codes(map, start, codes, &mut marks);
     all_free(map, gates, &marks)
 }
 

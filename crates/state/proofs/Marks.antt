@@ -39,10 +39,17 @@ module _ (m s : List ℕ) (k : IsMap m) (b : Bits s) where
       shown : (r x : ℕ) (v : Bool) → codeGate m r ≡ x → getD s (codeGate m r) 0 ≡ codeValue m r → v ≡ eqb (codeValue m r) 1 → on s x ≡ v
       shown r x v f q h = rw (← f, q, h)
 
+  -- every coded gate has its code, gate by gate and record by record
+  pub codes-by-record : allBelow (gateCount m) (λ g. showsCode (codeAmong m (codeCount m) g) (on s g)) ≡ shownByRecord m s
+  unfolding shownByRecord
+  codes-by-record = same-test _ _
+      (λ e. all-of _ (codeCount m) (λ r l. record-shown r l (all-at _ (gateCount m) (codeGate m r) e (k .sound .coded-gate r l))))
+      (λ e. all-of _ (gateCount m) (λ g h. shown-record g e))
+
   pub mark-tests : mark (circuit m) s ≡ gatesTest and shownByRecord m s
-  unfolding mark shownByRecord
-  mark-tests = same-test _ _
+  unfolding mark
+  mark-tests = rw (← codes-by-record) (same-test _ _
       (λ e. and-both _ _
       (all-of _ (gateCount m) (λ g h. and-left _ _ (all-at _ (gateCount m) g e h)))
-      (all-of _ (codeCount m) (λ r l. record-shown r l (and-right _ _ (all-at _ (gateCount m) (codeGate m r) e (k .sound .coded-gate r l))))))
-      (λ e. all-of _ (gateCount m) (λ g h. and-both _ _ (all-at _ (gateCount m) g (and-left _ _ e) h) (shown-record g (and-right _ _ e))))
+      (all-of _ (gateCount m) (λ g h. and-right _ _ (all-at _ (gateCount m) g e h))))
+      (λ e. all-of _ (gateCount m) (λ g h. and-both _ _ (all-at _ (gateCount m) g (and-left _ _ e) h) (all-at _ (gateCount m) g (and-right _ _ e) h))))

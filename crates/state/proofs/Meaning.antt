@@ -23,7 +23,7 @@ use Rattle.state.proofs.Filling.{bits-of}
 
 -- ---- tests behind the map's
 
-behind : (m : List ℕ) (b : List (ℕ × Bool)) → firstFailed (mapTests m ++ b) ≡ 0 → (verdict m ≡ 0) × (firstFailed b ≡ 0)
+pub behind : (m : List ℕ) (b : List (ℕ × Bool)) → firstFailed (mapTests m ++ b) ≡ 0 → (verdict m ≡ 0) × (firstFailed b ≡ 0)
 unfolding verdict
 behind m b e = (let v = passed-before (mapTests m) b e in (v, sym (behind-accepted m b v) ∙ e))
 
@@ -73,13 +73,13 @@ says-yes : (m s : List ℕ) → firstFailed (mapTests m ++ configurationTests m 
 unfolding marking markingBy
 says-yes m s e q = rw (eq-eqb _ 0 e, q)
 
-configuration-of : (m s : List ℕ) → firstFailed (configurationTests m s) ≡ 0 → Configuration (circuit m) s
+pub configuration-of : (m s : List ℕ) → firstFailed (configurationTests m s) ≡ 0 → Configuration (circuit m) s
 unfolding configurationTests
 configuration-of m s e =
     let t9 = none-failed 8 _ _ e in
     record { long = eqb-true _ _ (t9 .0); bits = bits-of s (none-failed 9 _ _ (t9 .1) .0) }
 
-of-configuration : (m s : List ℕ) → Configuration (circuit m) s → firstFailed (configurationTests m s) ≡ 0
+pub of-configuration : (m s : List ℕ) → Configuration (circuit m) s → firstFailed (configurationTests m s) ≡ 0
 unfolding configurationTests bitsTest
 of-configuration m s k =
     past _ _ _ (eq-eqb _ _ (k .long)) ∙ past _ _ _ (all-of (λ i. leb (getD s i 0) 1) (length s) (λ i h. le-leb _ _ (k .bits i))) ∙ no-test

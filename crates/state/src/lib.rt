@@ -1,7 +1,7 @@
 // States of a map: Evaluate and Mark.
 pub mod gates;
-mod marking;
-mod values;
+pub mod marking;
+pub mod values;
 
 use map::Checked;
 ghost use mathlib.Core.Path.{_≡_};

@@ -5,7 +5,7 @@ use Rattle.map.proofs.tests.free_ok.Tie as tie
 use Rattle.map.proofs.tests.free_ok.Reads as reads
 use Rattle.map.proofs.tests.free_ok.Lts as lts
 use Rattle.map.proofs.tests.all_free.Reads as all-free-reads
-use Rattle.map.proofs.tests.mark_codes.Reads as mark-codes-reads
+use Rattle.map.proofs.decode.mark_codes.Reads as mark-codes-reads
 
 mark-codes-requires : tie.Need-mark-codes-requires
 mark-codes-requires c κs = (search needs, (search needs, marks-none _ 1024))

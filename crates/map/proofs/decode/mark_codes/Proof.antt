@@ -7,10 +7,10 @@ use Rattle.map.specs.Map.{codeCount}
 use Rattle.map.specs.Check.{CodeMarks}
 use Rattle.map.proofs.Laws.{marks-more}
 use borrow.Author.Needs.{needs}
-use Rattle.map.proofs.tests.mark_codes.Statement.{statement}
-use Rattle.map.proofs.tests.mark_codes.Tie as tie
-use Rattle.map.proofs.tests.mark_codes.Reads as reads
-use Rattle.map.proofs.tests.mark_codes.Lts as lts
+use Rattle.map.proofs.decode.mark_codes.Statement.{statement}
+use Rattle.map.proofs.decode.mark_codes.Tie as tie
+use Rattle.map.proofs.decode.mark_codes.Reads as reads
+use Rattle.map.proofs.decode.mark_codes.Lts as lts
 use Rattle.map.proofs.decode.code_gate.Reads as code-gate-reads
 
 abbrev Inv-loop : tie.InvT-loop

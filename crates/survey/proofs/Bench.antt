@@ -1,0 +1,33 @@
+-- The examples, computed. Assumes nothing.
+use Prim.Native.Nat.{ℕ}
+use mathlib.Core.Path.{refl}
+use Rattle.folds.specs.Folds.{_and_, _or_, allBelow, descend}
+use Rattle.circuit.specs.Circuit.{justified}
+use Rattle.circuit.specs.Survey.{spread, reasons, cone, inFront, front, interest, survey, frontSize, interestSize}
+use Rattle.map.specs.Map.{u16At, fanInsBefore, codeAmong, kidsOf}
+use Rattle.map.specs.Check.{offsetsTest, kindFits, kindTest, positionTest, positionsTest, childTest, childrenTest, codeTest, freeTest, firstFailed, contentsTests, bodiesTests, mapTests}
+use Rattle.map.specs.Bench.{adderBytes}
+use Rattle.state.specs.State.{bitsTest, configurationTests}
+use Rattle.survey.specs.Survey.{codesTest, startTests, surveyTests, surveyingBy, surveying}
+use Rattle.survey.specs.Bench.{clashBytes, nandBytes, uncodedBytes, Examples}
+
+-- every definition that the examples compute with, under one name
+opened : ℕ
+unfolding _and_ _or_ allBelow descend justified spread reasons cone inFront front interest survey frontSize interestSize u16At fanInsBefore codeAmong kidsOf offsetsTest kindFits kindTest positionTest positionsTest childTest childrenTest codeTest freeTest firstFailed contentsTests bodiesTests mapTests adderBytes bitsTest configurationTests codesTest startTests surveyTests surveyingBy surveying clashBytes nandBytes uncodedBytes
+opened = 0
+
+pub examples : Examples
+unfolding opened
+examples = record {
+  P1 = refl;
+  P2 = refl;
+  not-in-front = refl;
+  not-below = refl;
+  and-at-0 = refl;
+  no-code = refl;
+  map-first = refl;
+  length-first = refl;
+  byte-first = refl;
+  code-first = refl;
+  memory-length = refl;
+}

@@ -1,0 +1,125 @@
+-- The pass for cone and front. Assumes nothing.
+use Prim.Native.Nat.{ℕ, zero, suc, _+_, _-_, _*_, _<_, _≤_}
+use mathlib.Core.Path.{_≡_, refl, sym, _∙_}
+use mathlib.Core.Logic.{inl, inr}
+use mathlib.Core.Bool.{Bool, true, false, not}
+use mathlib.Core.List.{List, List·Memᴰ as In}
+use native.Mathlib.Omega.{arith}
+use lib.ListN.{length, getD, set}
+use borrow.Author.Tests.{eq-eqb, ne-eqb}
+use Rattle.folds.proofs.Tests.{which, and-past, and-first-false}
+use Rattle.circuit.specs.Tools.{byte}
+use Rattle.circuit.specs.Circuit.{Circuit, WellFormed, coded, justified}
+use Rattle.circuit.specs.Survey.{reasons, cone, inFront, front, frontSize}
+use Rattle.circuit.proofs.Cone.{reasons-kids}
+use Rattle.survey.specs.Marks.{coneMarks, paint, one, coneTurn, frontAt}
+use Rattle.survey.proofs.Tables.{table-of, countFrom, count-none, count-more, count-all}
+use Rattle.survey.proofs.Pass.{From, begins, ends, mark-is, passes, turns}
+
+-- ---- a gate's turn, as the code takes it: u is 1 where the gate is not justified
+
+pub was-justified : (b : Bool) (u : ℕ) → u ≡ byte (not b) → u ≡ 0 → b ≡ true
+was-justified true u e z = refl
+was-justified false u e z = absurd (omega arith)
+
+not-justified : (b : Bool) (u : ℕ) → u ≡ byte (not b) → (u ≡ 0 → ⊥) → b ≡ false
+not-justified true u e z = absurd (z e)
+not-justified false u e z = refl
+
+module _ (c : Circuit) (s : List ℕ) (g : ℕ) (w : List ℕ) where
+  -- outside the cone, in the front, and in the cone and justified
+  pub turn-skips : getD w g 0 ≡ 0 → (w ≡ coneTurn c s g w) × (0 ≡ frontAt c s g w)
+  unfolding coneTurn frontAt
+  turn-skips z = (rw (eq-eqb (getD w g 0) 0 z), rw (eq-eqb (getD w g 0) 0 z))
+
+  module _ (in-it : getD w g 0 ≡ 0 → ⊥) (u : ℕ) (e : u ≡ byte (not (justified c s g))) where
+    pub turn-fronts : (u ≡ 0 → ⊥) → (set w g (1 + 2 * u) ≡ coneTurn c s g w) × (1 ≡ frontAt c s g w)
+    unfolding coneTurn frontAt reasons paint
+    turn-fronts z = let j = not-justified (justified c s g) u e z in (rw (ne-eqb (getD w g 0) 0 in-it, e, j), rw (ne-eqb (getD w g 0) 0 in-it, j))
+
+    pub turn-brings : u ≡ 0 → (v : List ℕ) → v ≡ paint one (reasons c s g) (set w g (1 + 2 * u)) → (v ≡ coneTurn c s g w) × (0 ≡ frontAt c s g w)
+    unfolding coneTurn frontAt
+    turn-brings z v q = (q ∙ rw (ne-eqb (getD w g 0) 0 in-it, e), rw (ne-eqb (getD w g 0) 0 in-it, ← e, z))
+
+-- ---- the pass
+
+module _ (c : Circuit) (s : List ℕ) where
+  -- a gate's mark after its turn; before it, it says only whether the gate is in the cone
+  abbrev coneMark : ℕ → ℕ
+  coneMark x = byte (cone c s x) + 2 * byte (inFront c s x)
+
+  abbrev reachMark : ℕ → Bool → ℕ
+  reachMark x b = byte b
+
+  abbrev pub ConeFrom : ℕ → List ℕ → Type 0
+  ConeFrom = From (c .gates) (reasons c s) (coded c) coneMark reachMark
+
+  pub cone-begins : (w : List ℕ) → length w ≡ c .gates → ((g : ℕ) → getD w g 0 ≡ byte (coded c g)) → ConeFrom (c .gates) w
+  cone-begins w e h = begins _ _ _ _ _ w (table-of w (λ x. byte (coded c x)) (c .gates) e (λ x l. h x))
+
+  pub cone-ends : (w : List ℕ) → ConeFrom 0 w → w ≡ coneMarks c s
+  unfolding coneMarks
+  cone-ends w k = ends _ _ _ _ _ w k
+
+  front-out : (g : ℕ) → cone c s g ≡ false → inFront c s g ≡ false
+  unfolding inFront
+  front-out g e = and-first-false _ _ e
+
+  front-in : (g : ℕ) → cone c s g ≡ true → inFront c s g ≡ not (justified c s g)
+  unfolding inFront
+  front-in g e = and-past _ _ e
+
+  module _ (ok : WellFormed c) (g : ℕ) (h : g < c .gates) (w : List ℕ) (k : ConeFrom (suc g) w) where
+    brings-below : (x : ℕ) → x < c .gates → (y : ℕ) → In y (reasons c s x) → y < x
+    brings-below x l y m = ok .below x l y (reasons-kids c ok s x y m)
+
+    marked : getD w g 0 ≡ byte (cone c s g)
+    unfolding cone
+    marked = mark-is (c .gates) (reasons c s) (coded c) coneMark reachMark brings-below g h w k
+
+    late-in : cone c s g ≡ true → coneMark g ≡ 1 + 2 * byte (not (justified c s g))
+    late-in q = rw (front-in g q, q)
+
+    late-out : cone c s g ≡ false → coneMark g ≡ 0
+    late-out q = rw (front-out g q, q)
+
+    turned : cone c s g ≡ true → ConeFrom g (paint one (reasons c s g) (set w g (coneMark g)))
+    unfolding cone
+    turned q = turns (c .gates) (reasons c s) (coded c) coneMark reachMark brings-below g h w k one (λ b. refl) (λ x b. refl) q
+
+    turn-in : cone c s g ≡ true → ConeFrom g (paint one (reasons c s g) (set w g (1 + 2 * byte (not (justified c s g)))))
+    turn-in q = rw (← late-in q) (turned q)
+
+    turn-out : cone c s g ≡ false → ConeFrom g w
+    unfolding cone
+    turn-out q = passes (c .gates) (reasons c s) (coded c) coneMark reachMark brings-below g h w k q (late-out q)
+
+    cone-turn : ConeFrom g (coneTurn c s g w)
+    unfolding coneTurn
+    cone-turn = rw marked (elim (which (cone c s g)) [
+      | inl q ↦ rw q (turn-in q)
+      | inr q ↦ rw q (turn-out q)
+    ])
+
+    -- what the turn counts
+    front-at : frontAt c s g w ≡ byte (inFront c s g)
+    unfolding frontAt
+    front-at = rw marked (elim (which (cone c s g)) [
+      | inl q ↦ rw (q, front-in g q)
+      | inr q ↦ rw (q, front-out g q)
+    ])
+
+  -- the turn of a loop that counts down from n: the marks, and the size of the front so far
+  pub cone-step : WellFormed c → (n : ℕ) → 0 < n → n ≤ c .gates → (w : List ℕ) → ConeFrom n w
+      → ConeFrom (n - 1) (coneTurn c s (n - 1) w) × (countFrom (inFront c s) (c .gates) n + frontAt c s (n - 1) w ≡ countFrom (inFront c s) (c .gates) (n - 1))
+  cone-step ok zero z l w k = absurd (omega arith)
+  cone-step ok (suc g) z l w k =
+      let e : suc g - 1 ≡ g = omega arith in
+      rw e (cone-turn ok g (omega arith) w k, rw (front-at ok g (omega arith) w k) (sym (count-more (inFront c s) (c .gates) g (omega arith))))
+
+  pub front-none : 0 ≡ countFrom (inFront c s) (c .gates) (c .gates)
+  front-none = sym (count-none (inFront c s) (c .gates))
+
+  pub front-all : countFrom (inFront c s) (c .gates) 0 ≡ frontSize c s
+  unfolding frontSize front
+  front-all = count-all (inFront c s) (c .gates)

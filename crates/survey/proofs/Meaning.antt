@@ -1,0 +1,81 @@
+-- What Survey means. Assumes nothing.
+use Prim.Native.Nat.{ℕ}
+use mathlib.Core.Path.{_≡_, sym, ap, _∙_}
+use mathlib.Core.Bool.{true, false≢true}
+use mathlib.Core.Logic.{inl, inr}
+use mathlib.Core.List.{List, _++_}
+use native.Mathlib.Omega.{arith}
+use lib.Dec.{eqb, leb}
+use lib.ListN.{length, drop, length-append, length-drop, List·getD-append}
+use lib.Seq.{drop-at}
+use borrow.Author.Tests.{eqb-true, eq-eqb, leb-true}
+use Rattle.folds.proofs.Tests.{which}
+use Rattle.circuit.specs.Survey.{survey, frontSize, interestSize}
+use Rattle.circuit.proofs.Survey.{survey-is}
+use Rattle.map.specs.Map.{gateCount, circuit}
+use Rattle.map.specs.Check.{firstFailed, mapTests}
+use Rattle.map.proofs.Laws.{past, no-test, none-failed, passed-before}
+use Rattle.map.proofs.Accepted.{facts, well-formed}
+use Rattle.map.proofs.Answers.{behind-accepted}
+use Rattle.state.specs.State.{over}
+use Rattle.state.proofs.Meaning.{behind}
+use Rattle.survey.specs.Survey.{startTests, surveyTests, surveyingBy, surveying, SurveyWrites, SurveyAccepts}
+use Rattle.survey.proofs.Starts.{behind-start, start-of, of-start}
+
+module _ (m s out : List ℕ) where
+  abbrev number : ℕ
+  number = firstFailed (mapTests m ++ surveyTests m s out)
+
+  none : surveying m s out .accepted ≡ true → number ≡ 0
+  unfolding surveying surveyingBy
+  none e = elim (which (eqb number 0)) [
+    | inl q ↦ eqb-true number 0 q
+    | inr q ↦ absurd (false≢true (rw q at e))
+  ]
+
+  accepted : number ≡ 0 → surveying m s out .accepted ≡ true
+  unfolding surveying surveyingBy
+  accepted e = rw (eq-eqb number 0 e)
+
+  -- the two parts of a call's tests behind the map's
+  room : firstFailed (surveyTests m s out) ≡ 0 → (firstFailed (startTests m s) ≡ 0) × (leb (gateCount m) (length out) ≡ true)
+  unfolding surveyTests
+  room e = (let k = passed-before (startTests m s) _ e in (k, none-failed 13 _ _ (sym (behind-start m s _ k) ∙ e) .0))
+
+  of-room : firstFailed (startTests m s) ≡ 0 → leb (gateCount m) (length out) ≡ true → firstFailed (surveyTests m s out) ≡ 0
+  unfolding surveyTests
+  of-room k l = behind-start m s _ k ∙ past _ _ _ l ∙ no-test
+
+  written : number ≡ 0 → surveying m s out ≡ record { accepted = true; number = 0; front = frontSize (circuit m) s; interest = interestSize (circuit m) s; out = over (survey (circuit m) s) out }
+  unfolding surveying surveyingBy
+  written e = rw (eq-eqb number 0 e)
+
+pub survey-writes : SurveyWrites
+survey-writes m s out e =
+    let n = none m s out e in
+    let (v, t) = behind m (surveyTests m s out) n in
+    let (k, r) = room m s out t in
+    let f = survey-is (circuit m) (well-formed m (facts m v)) s in
+    let l : length (survey (circuit m) s) ≡ gateCount m = f .long in
+    rw (written m s out n) (record {
+      start = start-of m s k;
+      bytes = λ g h. record {
+        cone = _;
+        front = _;
+        interest = _;
+        is = List·getD-append (survey (circuit m) s) _ 0 g (omega arith) ∙ f .bytes g h;
+        cone-is = f .cone-is g h;
+        front-is = f .front-is g h;
+        interest-is = f .interest-is g h;
+      };
+      surplus = drop-at (survey (circuit m) s) _ (gateCount m) l ∙ ap (λ (i : ℕ). drop i out) l;
+      long = simp (length-append, length-drop) (omega (arith, leb-true (gateCount m) (length out) r));
+      front-size = f .front-size;
+      interest-size = f .interest-size;
+    })
+
+pub survey-accepts : SurveyAccepts
+survey-accepts m s out = (
+  λ e. (let (v, t) = behind m (surveyTests m s out) (none m s out e) in let (k, r) = room m s out t in (v, (start-of m s k, r))),
+  λ a. accepted m s out (behind-accepted m _ (a .0) ∙ of-room m s out (of-start m s (a .1 .0)) (a .1 .1)),
+)

@@ -1,0 +1,26 @@
+use Rattle.survey.specs.Marks.{paint}
+use borrow.Author.Needs.{needs}
+use Rattle.survey.proofs.cone.mark_child.Statement.{statement}
+use Rattle.survey.proofs.cone.mark_child.Tie as tie
+use Rattle.survey.proofs.cone.mark_child.Reads as reads
+use Rattle.survey.proofs.cone.mark_child.Lts as lts
+use Rattle.map.proofs.kinds.relevant.Reads as relevant-reads
+
+returns : tie.Need-returns
+unfolding paint
+returns c = rw (← c .before .relevant .ensures, c .if1 .taken)
+
+returns-2 : tie.Need-returns-2
+unfolding paint
+returns-2 c = rw (← c .before .relevant .ensures, c .if1 .left)
+
+pub mark-child-spec : {M : Type 1} → statement M
+mark-child-spec =
+    tie.close
+    (tie.spec
+    (λ c. search needs)
+    (λ c κs. search needs)
+    (λ c. search needs)
+    (λ c. search needs)
+    returns
+    returns-2)

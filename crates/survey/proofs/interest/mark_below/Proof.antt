@@ -1,0 +1,18 @@
+use borrow.Author.Tests.{lt-ltb, le-ltb}
+use Rattle.survey.specs.Marks.{below}
+use borrow.Author.Needs.{needs}
+use Rattle.survey.proofs.interest.mark_below.Statement.{statement}
+use Rattle.survey.proofs.interest.mark_below.Tie as tie
+use Rattle.survey.proofs.interest.mark_below.Reads as reads
+use Rattle.survey.proofs.interest.mark_below.Lts as lts
+
+returns : tie.Need-returns
+unfolding below
+returns c = rw (lt-ltb _ 2 (c .if1 .taken))
+
+returns-2 : tie.Need-returns-2
+unfolding below
+returns-2 c = rw (le-ltb _ 2 (c .if1 .left))
+
+pub mark-below-spec : {M : Type 1} → statement M
+mark-below-spec = tie.close (tie.spec (λ c. search needs) returns returns-2)

@@ -1,0 +1,71 @@
+use denote.Ref.{now}
+use native.Mathlib.Omega.{arith}
+use Prim.Native.Nat.{_-_, _≤_}
+use mathlib.Core.Path.{_≡_, refl, sym}
+use mathlib.Core.List.{map}
+use lib.ListN.{length, length-set}
+use Rattle.circuit.specs.Tools.{upTo}
+use Rattle.map.specs.Map.{fanIn, childAt, kidsOf}
+use Rattle.survey.specs.Marks.{paint, below}
+use Rattle.survey.proofs.Tables.{paint-none, paint-next}
+use borrow.Author.Needs.{needs}
+use Rattle.survey.proofs.interest.mark_children.Statement.{statement}
+use Rattle.survey.proofs.interest.mark_children.Tie as tie
+use Rattle.survey.proofs.interest.mark_children.Reads as reads
+use Rattle.survey.proofs.interest.mark_children.Lts as lts
+use Rattle.map.proofs.decode.child.Reads as child-reads
+use Rattle.map.proofs.decode.fan_in.Reads as fan-in-reads
+use Rattle.survey.proofs.interest.mark_below.Reads as mark-below-reads
+
+abbrev Inv-loop : tie.InvT-loop
+Inv-loop m gates g marks₀ fan j₀ marks j = (j ≤ fan) × ((marks ≡ paint below (map (λ i. childAt m g i) (upTo j)) marks₀) × (length marks ≡ length marks₀))
+
+abbrev μ-loop : tie.MeasureT-loop
+μ-loop m gates g marks₀ fan j₀ marks j = fan - j
+
+loop-holds : tie.Need-loop-holds Inv-loop μ-loop
+loop-holds c = (search needs, (sym (paint-none _ _), refl))
+
+slice-read-mark-below : tie.Need-slice-read-mark-below Inv-loop μ-loop
+slice-read-mark-below c = let s = c .before .before .before .before .before .before .before in
+    omega (arith, s .pre .0 .sound .below (s .args .g) (c .before .before .before .loop .j) (omega arith) (omega arith))
+
+slice-write-marks : tie.Need-slice-write-marks Inv-loop μ-loop
+slice-write-marks c = let s = c .before .before .before .before .before .before .before .before in
+    omega (arith, s .pre .0 .sound .below (s .args .g) (c .before .before .before .before .loop .j) (omega arith) (omega arith))
+
+loop-again : tie.Need-loop-again Inv-loop μ-loop
+unfolding paint
+loop-again c = let l = c .before .before .before .before .loop in
+    let s = c .before .before .before .before .before .before .before .before in (
+      omega arith,
+      (
+        rw (paint-next below (λ i. childAt (now (s .args .map)) (s .args .g) i) (l .j) (now (s .args .marks)), ← l .inv .1 .0, ← c .before .before .child .ensures .0, ← c .mark-below .ensures),
+        simp length-set (l .inv .1 .1),
+      ),
+    )
+
+returns : tie.Need-returns Inv-loop μ-loop
+unfolding kidsOf
+returns c = let l = c .before .loop in
+    let s = c .before .before .before .before .before in
+    let e : fanIn (now (s .args .map)) (s .args .g) ≡ l .j = omega arith in
+    rw e (l .inv .1 .0)
+
+pub mark-children-spec : {M : Type 1} → statement M
+mark-children-spec =
+    tie.close
+    (tie.spec
+    Inv-loop
+    μ-loop
+    (λ c κs. search needs)
+    loop-holds
+    (λ c κs. search needs)
+    slice-read-mark-below
+    (λ c κs. search needs)
+    slice-write-marks
+    (λ c. search needs)
+    (λ c. search needs)
+    loop-again
+    (λ c. search needs)
+    returns)

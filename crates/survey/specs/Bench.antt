@@ -1,0 +1,59 @@
+-- Document 01, 'Bench examples' and 'Mistakes to rule out', as far as Survey goes: what the definitions say of bytes. antt computes them. Assumes nothing.
+use Prim.Native.Nat.{ℕ}
+use mathlib.Core.Path.{_≡_}
+use mathlib.Core.Bool.{true, false}
+use mathlib.Core.List.{List, [], _∷_}
+use lib.ListN.{take}
+use Rattle.circuit.specs.Bench.{A, B}
+use Rattle.map.specs.Bench.{four, adderBytes, withByte}
+use Rattle.state.specs.Bench.{memory}
+use Rattle.survey.specs.Survey.{Surveying, surveying}
+
+-- P9's map: "0 input, 1 NOT(0), 2 AND(0,1), code 2 = 1"
+unfoldable pub clashBytes : List ℕ
+clashBytes =
+    four 12 0 3 0 (four 24 0 3 0 (four 30 0 1 0 (
+    four 0 0 0 0 (four 1 1 0 0 (four 2 2 1 0 (
+    four 0 0 0 0 (1 ∷ 0 ∷ (
+    four 2 0 1 0 []))))))))
+
+-- 0, 1 inputs, 2 AND(0,1), 3 NOT(2), code 3 = 1
+unfoldable pub nandBytes : List ℕ
+nandBytes =
+    four 12 0 4 0 (four 28 0 3 0 (four 34 0 1 0 (
+    four 0 0 0 0 (four 0 0 0 0 (four 2 2 0 0 (four 1 1 2 0 (
+    four 0 0 1 0 (2 ∷ 0 ∷ (
+    four 3 0 1 0 [])))))))))
+
+-- P10's map: "one input, no code"
+unfoldable pub uncodedBytes : List ℕ
+uncodedBytes = four 12 0 1 0 (four 16 0 0 0 (four 16 0 0 0 (four 0 0 0 0 [])))
+
+-- the answer of a refused call
+abbrev pub declined : ℕ → List ℕ → Surveying
+declined n out = record { accepted = false; number = n; front = 0; interest = 0; out = out }
+
+pub record Examples : Type 0 where
+  -- "P1 A = 0 0 1 1 0 1 0 1: survey 4 4 1 7 0 1 0 1, front 1, interest 3", with a surplus of two bytes that stands: gate 4, a child at 0 of an OR
+  -- at 1, is not in the cone
+  pub P1 : surveying adderBytes A memory
+      ≡ record { accepted = true; number = 0; front = 1; interest = 3; out = four 4 4 1 7 (four 0 1 0 1 (170 ∷ 170 ∷ [])) }
+  -- "P2 B = 1 1 1 1 1 0 0 1: survey 1 1 0 0 1 0 0 1, front 0, interest 0.", in memory that is just long enough
+  pub P2 : surveying adderBytes B (take 8 memory)
+      ≡ record { accepted = true; number = 0; front = 0; interest = 0; out = four 1 1 0 0 (four 1 0 0 1 []) }
+  -- a NOT in the front, which is interesting like others (P9 after its first move), and a gate of the front above it (its start)
+  pub not-in-front : surveying clashBytes (1 ∷ 1 ∷ 1 ∷ []) (take 3 memory)
+      ≡ record { accepted = true; number = 0; front = 1; interest = 2; out = 5 ∷ 7 ∷ 1 ∷ [] }
+  pub not-below : surveying clashBytes (0 ∷ 0 ∷ 1 ∷ []) (take 3 memory)
+      ≡ record { accepted = true; number = 0; front = 1; interest = 3; out = 4 ∷ 4 ∷ 7 ∷ [] }
+  -- of an AND at 0 only the child at 0 is relevant
+  pub and-at-0 : surveying nandBytes (four 0 1 0 1 []) (take 4 memory)
+      ≡ record { accepted = true; number = 0; front = 0; interest = 0; out = four 1 0 1 1 [] }
+  -- no code: no cone
+  pub no-code : surveying uncodedBytes (1 ∷ []) (take 1 memory) ≡ record { accepted = true; number = 0; front = 0; interest = 0; out = 0 ∷ [] }
+  -- 8 before 9, 9 before 10, 10 before 11, 11 before 14, and 14; the memory stands
+  pub map-first : surveying (withByte 64 3 adderBytes) [] memory ≡ declined 8 memory
+  pub length-first : surveying adderBytes (2 ∷ A) memory ≡ declined 9 memory
+  pub byte-first : surveying adderBytes (four 2 0 1 1 (four 0 1 0 0 [])) memory ≡ declined 10 memory
+  pub code-first : surveying adderBytes (four 0 0 1 1 (four 0 1 0 0 [])) (take 7 memory) ≡ declined 11 (take 7 memory)
+  pub memory-length : surveying adderBytes A (take 7 memory) ≡ declined 14 (take 7 memory)

@@ -1,0 +1,94 @@
+-- Document 01's Survey, on bytes. Assumes nothing.
+use Prim.Native.Nat.{ℕ, _+_, _*_, _<_}
+use mathlib.Core.Path.{_≡_}
+use mathlib.Core.Logic.{_↔_}
+use mathlib.Core.Bool.{Bool, true, false, cond}
+use mathlib.Core.List.{List, [], _∷_, _++_}
+use lib.ListN.{length, getD, drop}
+use lib.Dec.{eqb, leb}
+use Rattle.folds.specs.Folds.{allBelow}
+use Rattle.circuit.specs.Tools.{byte}
+use Rattle.circuit.specs.Circuit.{on}
+use Rattle.circuit.specs.Evaluate.{showsCode, KeepsCodes}
+use Rattle.circuit.specs.Survey.{survey, frontSize, interestSize}
+use Rattle.circuit.specs.Source001.{Cone, Front, Interesting, Size}
+use Rattle.map.specs.Map.{gateCount, circuit}
+use Rattle.map.specs.Check.{firstFailed, mapTests, verdict}
+use Rattle.state.specs.State.{configurationTests, over}
+use Rattle.survey.specs.declared.Surveyed.{Surveyed}
+use Rattle.survey.specs.declared.Surveyed.the-variants.{Done, Refused}
+
+-- ---- the tests
+
+-- "11. For Survey, Move and Run: a coded gate's value isn't its code.": true where every one is
+unfoldable pub codesTest : List ℕ → List ℕ → Bool
+codesTest m s = allBelow (gateCount m) (λ g. showsCode (circuit m .code g) (on s g))
+
+-- of a configuration from which a search goes on: 9, 10 and 11
+unfoldable pub startTests : List ℕ → List ℕ → List (ℕ × Bool)
+startTests m s = configurationTests m s ++ ((11, codesTest m s) ∷ [])
+
+-- Survey's tests behind the map's: these, and "14. Output .. memory is shorter than the gate count."
+unfoldable pub surveyTests : List ℕ → List ℕ → List ℕ → List (ℕ × Bool)
+surveyTests m s out = startTests m s ++ ((14, leb (gateCount m) (length out)) ∷ [])
+
+-- ---- Survey
+
+-- Survey's answer, whether the call is accepted and else its number, "the sizes of front and interest set", and the output memory after the call
+pub record Surveying : Type 0 where
+  pub accepted : Bool
+  pub number : ℕ
+  pub front : ℕ
+  pub interest : ℕ
+  pub out : List ℕ
+
+-- document 01's number and values of each case of the answer, beside the memory
+unfoldable pub reports : Surveyed → List ℕ → Surveying
+reports (Done z) w = record { accepted = true; number = 0; front = z .front; interest = z .interest; out = w }
+reports (Refused n) w = record { accepted = false; number = n; front = 0; interest = 0; out = w }
+
+-- what a call with this number gives and leaves: "Survey writes one byte per gate .. and returns the sizes"; declined, it "leaves all lent memory
+-- untouched; the other numbers of its answer .. are then 0"
+unfoldable pub surveyingBy : ℕ → List ℕ → List ℕ → List ℕ → Surveying
+surveyingBy n m s out =
+    cond (eqb n 0)
+    (record { accepted = true; number = 0; front = frontSize (circuit m) s; interest = interestSize (circuit m) s; out = over (survey (circuit m) s) out })
+    (record { accepted = false; number = n; front = 0; interest = 0; out = out })
+
+unfoldable pub surveying : List ℕ → List ℕ → List ℕ → Surveying
+surveying m s out = surveyingBy (firstFailed (mapTests m ++ surveyTests m s out)) m s out
+
+-- ---- what it means
+
+-- "1 if in the cone, plus 2 if in the front, plus 4 if interesting": what a byte says, for the three sets of source document 001
+pub record SurveyByte (b : ℕ) (InCone InFront IsInteresting : Type 0) : Type 0 where
+  pub cone : Bool
+  pub front : Bool
+  pub interest : Bool
+  pub is : b ≡ byte cone + 2 * byte front + 4 * byte interest
+  pub cone-is : (cone ≡ true) ↔ InCone
+  pub front-is : (front ≡ true) ↔ InFront
+  pub interest-is : (interest ≡ true) ↔ IsInteresting
+
+-- The bytes and sizes are those of 001's cone, front and interest set (with document 01's two differences); the surplus stands.
+pub record Surveys (m s out : List ℕ) (r : Surveying) : Type 0 where
+  pub start : KeepsCodes (circuit m) s
+  pub bytes : (g : ℕ) → g < gateCount m → SurveyByte (getD (r .out) g 0) (Cone (circuit m) s g) (Front (circuit m) s g) (Interesting (circuit m) s g)
+  pub surplus : drop (gateCount m) (r .out) ≡ drop (gateCount m) out
+  pub long : length (r .out) ≡ length out
+  pub front-size : Size (Front (circuit m) s) (r .front)
+  pub interest-size : Size (Interesting (circuit m) s) (r .interest)
+
+abbrev pub SurveyWrites : Type 0
+SurveyWrites = (m s out : List ℕ) → surveying m s out .accepted ≡ true → Surveys m s out (surveying m s out)
+
+-- Survey is accepted exactly for accepted maps, starts that keep the codes, and memory that is long enough.
+abbrev pub SurveyAccepts : Type 0
+SurveyAccepts =
+    (m s out : List ℕ) → (surveying m s out .accepted ≡ true) ↔ ((verdict m ≡ 0) × (KeepsCodes (circuit m) s × (leb (gateCount m) (length out) ≡ true)))
+
+-- ---- for inner functions
+
+-- Survey behind the map's tests
+unfoldable pub startSurveying : List ℕ → List ℕ → List ℕ → Surveying
+startSurveying m s out = surveyingBy (firstFailed (surveyTests m s out)) m s out

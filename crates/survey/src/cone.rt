@@ -1,0 +1,117 @@
+// The cone and the front, by one pass from the last gate to gate 0.
+use map::decode;
+use map::kinds;
+use state::gates;
+ghost use mathlib.Core.Path.{_≡_};
+ghost use mathlib.Core.Bool.{Bool, true, false, not};
+ghost use mathlib.Core.List.{[], _∷_};
+ghost use Prim.Native.Nat.{_+_, _*_, _<_, _≤_};
+ghost use lib.ListN.{length, replicate};
+ghost use Rattle.circuit.specs.Tools.{byte, select};
+ghost use Rattle.circuit.specs.Gate.{kindOf, relevant};
+ghost use Rattle.circuit.specs.Circuit.{on, justified};
+ghost use Rattle.circuit.specs.Survey.{reasons, frontSize};
+ghost use Rattle.map.specs.Map.{gateCount, childCount, codeCount, circuit};
+ghost use Rattle.map.specs.Check.{IsMap, CodeMarks};
+ghost use Rattle.survey.specs.Marks.{coneMarks, paint, one, coneTurn, frontAt};
+
+// Sets every mark to 0.
+fn clear(marks: &mut [u8])
+    ensures { λ _. ⌜ now (marks .exit) ≡ replicate (length (now (marks .entry))) 0 ⌝ }
+{
+    let n = marks.len();
+    let mut i = 0;
+    while i < n {
+        marks[i] = 0;
+        i += 1;
+    }
+}
+
+// 1 for a gate that is not justified, else 0.
+fn unjustified(map: &[u8], gates: usize, g: usize, s: &[u8]) -> u8
+    requires { ⌜ IsMap (now map) × ((gates ≡ gateCount (now map)) × ((g < gates) × (gates ≤ length (now s)))) ⌝ }
+    ensures { λ r. ⌜ (r ≡ byte (not (justified (circuit (now (map .entry))) (now (s .entry)) g))) × (r ≤ 1) ⌝ }
+{
+    if gates::justified(map, gates, g, s) {
+        0
+    } else {
+        1
+    }
+}
+
+// Child x of a justified gate of this kind and value comes into the cone if it is relevant.
+fn mark_child(kind: u8, v: bool, x: usize, s: &[u8], marks: &mut [u8])
+    requires { ⌜ (x < length (now s)) × (x < length (now marks)) ⌝ }
+    ensures { λ _. ⌜ now (marks .exit) ≡ paint one (select (λ y. relevant (kindOf kind) v (on (now (s .entry)) y)) (x ∷ [])) (now (marks .entry)) ⌝ }
+{
+    if kinds::relevant(kind, v, s[x] == 1) {
+        marks[x] = 1;
+    }
+}
+
+// The relevant children of a justified gate come into the cone.
+fn mark_children(map: &[u8], gates: usize, g: usize, s: &[u8], marks: &mut [u8])
+    requires { ⌜ IsMap (now map) × ((gates ≡ gateCount (now map)) × ((g < gates) × ((gates ≤ length (now s)) × (gates ≤ length (now marks))))) ⌝ }
+    requires { ⌜ justified (circuit (now map)) (now s) g ≡ true ⌝ }
+    ensures { λ _. ⌜ now (marks .exit) ≡ paint one (reasons (circuit (now (map .entry))) (now (s .entry)) g) (now (marks .entry)) ⌝ }
+{
+    let kind = decode::kind(map, gates, g);
+    let v = s[g] == 1;
+    let fan = decode::fan_in(map, gates, g);
+    let mut j = 0;
+    while j < fan {
+        let x = decode::child(map, gates, g, j);
+        mark_child(kind, v, x, s, marks);
+        j += 1;
+    }
+}
+
+// Gate g's turn. In the cone it is in the front, or it brings its relevant children. Returns 1 if it is in the front, else 0.
+fn mark_gate(map: &[u8], gates: usize, g: usize, s: &[u8], marks: &mut [u8]) -> u16
+    requires { ⌜ IsMap (now map) × ((gates ≡ gateCount (now map)) × ((g < gates) × ((gates ≤ length (now s)) × (gates ≤ length (now marks))))) ⌝ }
+    ensures { λ r. ⌜ (now (marks .exit) ≡ coneTurn (circuit (now (map .entry))) (now (s .entry)) g (now (marks .entry))) × ((r ≡ frontAt (circuit (now (map .entry))) (now (s .entry)) g (now (marks .entry))) × (r ≤ 1)) ⌝ }
+{
+    if marks[g] == 0 {
+        return 0;
+    }
+    let front = unjustified(map, gates, g, s);
+    marks[g] = 1 + 2 * front;
+    if front != 0 {
+        return 1;
+    }
+    mark_children(map, gates, g, s, marks);
+    0
+}
+
+// Marks, with the coded gates at 1, become the cone and the front of s. Returns the front's size.
+fn pass(map: &[u8], gates: usize, s: &[u8], marks: &mut [u8]) -> u16
+    requires { ⌜ IsMap (now map) × ((gates ≡ gateCount (now map)) × ((gates ≤ length (now s)) × (gates ≡ length (now marks)))) ⌝ }
+    requires { ⌜ CodeMarks (now map) (codeCount (now map)) (now marks) ⌝ }
+    ensures { λ r. ⌜ (now (marks .exit) ≡ coneMarks (circuit (now (map .entry))) (now (s .entry))) × (r ≡ frontSize (circuit (now (map .entry))) (now (s .entry))) ⌝ }
+{
+    let mut size = 0;
+    let mut g = gates;
+    while 0 < g {
+        g -= 1;
+        size += mark_gate(map, gates, g, s, marks);
+    }
+    size
+}
+
+// Writes the cone and the front of s into marks: 1 for a gate in the cone, 3 in the front. Returns the front's size.
+pub fn mark(
+    map: &[u8],
+    gates: usize,
+    children: usize,
+    codes: usize,
+    s: &[u8],
+    marks: &mut [u8],
+) -> u16
+    requires { ⌜ IsMap (now map) × ((gates ≡ gateCount (now map)) × ((children ≡ childCount (now map)) × (codes ≡ codeCount (now map)))) ⌝ }
+    requires { ⌜ (gates ≤ length (now s)) × (gates ≡ length (now marks)) ⌝ }
+    ensures { λ r. ⌜ (now (marks .exit) ≡ coneMarks (circuit (now (map .entry))) (now (s .entry))) × (r ≡ frontSize (circuit (now (map .entry))) (now (s .entry))) ⌝ }
+{
+    clear(marks);
+    decode::mark_codes(map, 12 + 4 * gates + 2 * children, codes, marks);
+    pass(map, gates, s, marks)
+}
