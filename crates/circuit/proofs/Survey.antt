@@ -15,7 +15,7 @@ use Rattle.circuit.specs.Gate.{isInput, relevant}
 use Rattle.circuit.specs.Circuit.{Circuit, coded, gatesIn, WellFormed, on, justified}
 use Rattle.circuit.specs.Evaluate.{differ}
 use Rattle.circuit.specs.Survey.{reasons, cone, inFront, front, interest, survey, frontSize, interestSize}
-use Rattle.circuit.specs.Source001.{first, then, Descendant, child, further, Brings, Cone, Front, Interesting, Lists, DifferIs, Surveyed, SurveyIs001}
+use Rattle.circuit.specs.Source001.{first, then, Descendant, child, further, Brings, Cone, Front, Interesting, Lists, DifferIs, SurveyOf001, SurveyIs001}
 use Rattle.circuit.proofs.Lists.{select-in, in-select, select-sub, sub-rising, in-upTo, upTo-in, length-upTo, rising-upTo, map-at}
 use Rattle.circuit.proofs.Gate.{no-part}
 use Rattle.circuit.proofs.Spread.{spread-start, spread-closed, spread-least}
@@ -128,7 +128,7 @@ module _ (c : Circuit) (ok : WellFormed c) (s : List ℕ) where
   unfolding front
   front-lists = lists-set c (inFront c s) (Front c s) front-to front-from
 
-  surveyed : Surveyed c s
+  surveyed : SurveyOf001 c s
   unfolding survey frontSize interestSize
   surveyed = record {
     cone-is = λ g h. (cone-to g h, λ t. cone-from g t .1);

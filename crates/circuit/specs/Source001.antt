@@ -212,7 +212,7 @@ abbrev pub DifferIs : Type 0
 DifferIs = (c : Circuit) (s a : List ℕ) → Size (λ g. (g < c .gates) × ¬ (getD s g 0 ≡ getD a g 0)) (differ c s a)
 
 -- Cone, front and interest set as sets, Survey's bytes and sizes, and the list from which a move draws
-pub record Surveyed (c : Circuit) (s : List ℕ) : Type 0 where
+pub record SurveyOf001 (c : Circuit) (s : List ℕ) : Type 0 where
   pub cone-is : (g : ℕ) → g < c .gates → (cone c s g ≡ true) ↔ Cone c s g
   pub front-is : (g : ℕ) → g < c .gates → (inFront c s g ≡ true) ↔ Front c s g
   pub interest-is : (g : ℕ) → g < c .gates → (interest c s g ≡ true) ↔ Interesting c s g
@@ -223,4 +223,4 @@ pub record Surveyed (c : Circuit) (s : List ℕ) : Type 0 where
   pub interest-size : Size (Interesting c s) (interestSize c s)
 
 abbrev pub SurveyIs001 : Type 0
-SurveyIs001 = (c : Circuit) → WellFormed c → (s : List ℕ) → Surveyed c s
+SurveyIs001 = (c : Circuit) → WellFormed c → (s : List ℕ) → SurveyOf001 c s

@@ -6,7 +6,7 @@ ghost use Prim.Native.Nat.{_+_, _*_, _<_, _≤_};
 ghost use lib.ListN.{length};
 ghost use Rattle.circuit.specs.Tools.{byte};
 ghost use Rattle.circuit.specs.Evaluate.{inputsBefore};
-ghost use Rattle.map.specs.Map.{u16At, gateCount, codeCount, codesAt, kindByte, fanIn, childAt, codeGate, circuit};
+ghost use Rattle.map.specs.Map.{u16At, gateCount, childCount, codeCount, childrenAt, codesAt, kindByte, fanIn, firstChild, childAt, codeGate, circuit};
 ghost use Rattle.map.specs.Check.{Shaped, Placed, Sound, countsOf, CodeMarks};
 
 // A byte as a number of any size.
@@ -24,13 +24,28 @@ pub fn word(s: &[u8], at: usize) -> usize
     wide(s[at]) + 256 * wide(s[at + 1])
 }
 
+// Where the children of gate g begin, among all children.
+pub fn first_child(map: &[u8], gates: usize, g: usize) -> usize
+    requires { ⌜ Shaped (now map) × ((gates ≡ gateCount (now map)) × (g < gates)) ⌝ }
+    ensures { λ r. ⌜ (r ≡ firstChild (now (map .entry)) g) × (r < 65536) ⌝ }
+{
+    word(map, 14 + 4 * g)
+}
+
+// Child j of a gate whose children begin at `first`: for a loop that writes, as the compiler does not know that it leaves the map alone.
+pub fn child_from(map: &[u8], gates: usize, first: usize, j: usize) -> usize
+    requires { ⌜ Shaped (now map) × ((gates ≡ gateCount (now map)) × (first + j < childCount (now map))) ⌝ }
+    ensures { λ r. ⌜ (r ≡ u16At (now (map .entry)) (childrenAt (now (map .entry)) + 2 * (first + j))) × (r < 65536) ⌝ }
+{
+    word(map, 12 + 4 * gates + 2 * (first + j))
+}
+
 // Child j of gate g.
 pub fn child(map: &[u8], gates: usize, g: usize, j: usize) -> usize
     requires { ⌜ Placed (now map) × ((gates ≡ gateCount (now map)) × ((g < gates) × (j < fanIn (now map) g))) ⌝ }
     ensures { λ r. ⌜ (r ≡ childAt (now (map .entry)) g j) × (r < 65536) ⌝ }
 {
-    let first = word(map, 14 + 4 * g);
-    word(map, 12 + 4 * gates + 2 * (first + j))
+    child_from(map, gates, first_child(map, gates, g), j)
 }
 
 // The gate of code r.

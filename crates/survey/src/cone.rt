@@ -58,9 +58,10 @@ fn mark_children(map: &[u8], gates: usize, g: usize, s: &[u8], marks: &mut [u8])
     let kind = decode::kind(map, gates, g);
     let v = s[g] == 1;
     let fan = decode::fan_in(map, gates, g);
+    let first = decode::first_child(map, gates, g);
     let mut j = 0;
     while j < fan {
-        let x = decode::child(map, gates, g, j);
+        let x = decode::child_from(map, gates, first, j);
         mark_child(kind, v, x, s, marks);
         j += 1;
     }

@@ -29,9 +29,10 @@ fn mark_children(map: &[u8], gates: usize, g: usize, marks: &mut [u8])
     ensures { λ _. ⌜ now (marks .exit) ≡ paint below (kidsOf (now (map .entry)) g) (now (marks .entry)) ⌝ }
 {
     let fan = decode::fan_in(map, gates, g);
+    let first = decode::first_child(map, gates, g);
     let mut j = 0;
     while j < fan {
-        let x = decode::child(map, gates, g, j);
+        let x = decode::child_from(map, gates, first, j);
         marks[x] = mark_below(marks[x]);
         j += 1;
     }

@@ -1,6 +1,6 @@
 use denote.Ref.{now}
 use native.Mathlib.Omega.{arith}
-use Prim.Native.Nat.{_-_, _≤_}
+use Prim.Native.Nat.{_-_, _<_, _≤_}
 use mathlib.Core.Path.{_≡_, refl, sym}
 use mathlib.Core.List.{map}
 use lib.ListN.{length, length-set}
@@ -13,34 +13,40 @@ use Rattle.survey.proofs.interest.mark_children.Statement.{statement}
 use Rattle.survey.proofs.interest.mark_children.Tie as tie
 use Rattle.survey.proofs.interest.mark_children.Reads as reads
 use Rattle.survey.proofs.interest.mark_children.Lts as lts
-use Rattle.map.proofs.decode.child.Reads as child-reads
+use Rattle.map.proofs.decode.child_from.Reads as child-from-reads
+use Rattle.map.proofs.decode.first_child.Reads as first-child-reads
 use Rattle.map.proofs.decode.fan_in.Reads as fan-in-reads
 use Rattle.survey.proofs.interest.mark_below.Reads as mark-below-reads
 
 abbrev Inv-loop : tie.InvT-loop
-Inv-loop m gates g marks₀ fan j₀ marks j = (j ≤ fan) × ((marks ≡ paint below (map (λ i. childAt m g i) (upTo j)) marks₀) × (length marks ≡ length marks₀))
+Inv-loop m gates g marks₀ fan first j₀ marks j = (j ≤ fan) × ((marks ≡ paint below (map (λ i. childAt m g i) (upTo j)) marks₀) × (length marks ≡ length marks₀))
 
 abbrev μ-loop : tie.MeasureT-loop
-μ-loop m gates g marks₀ fan j₀ marks j = fan - j
+μ-loop m gates g marks₀ fan first j₀ marks j = fan - j
 
 loop-holds : tie.Need-loop-holds Inv-loop μ-loop
 loop-holds c = (search needs, (sym (paint-none _ _), refl))
 
-slice-read-mark-below : tie.Need-slice-read-mark-below Inv-loop μ-loop
-slice-read-mark-below c = let s = c .before .before .before .before .before .before .before in
-    omega (arith, s .pre .0 .sound .below (s .args .g) (c .before .before .before .loop .j) (omega arith) (omega arith))
+child-from-requires : tie.Need-child-from-requires Inv-loop μ-loop
+child-from-requires c κs = let s = c .before .before .before .before .before .before in
+    (s .pre .0 .sound .placed .shaped, (s .pre .1 .0, omega (arith, s .pre .0 .sound .placed .within (s .args .g) (omega arith))))
 
-slice-write-marks : tie.Need-slice-write-marks Inv-loop μ-loop
-slice-write-marks c = let s = c .before .before .before .before .before .before .before .before in
-    omega (arith, s .pre .0 .sound .below (s .args .g) (c .before .before .before .before .loop .j) (omega arith) (omega arith))
+-- the child that was read, as the gate's child j
+child-is : (c : tie.After-child-from Inv-loop μ-loop)
+    → c .child-from .result ≡ childAt (now (c .before .before .before .before .before .before .before .args .map)) (c .before .before .before .before .before .before .before .args .g) (c .before .before .loop .j)
+child-is c = rw (c .before .before .before .first-child .ensures .0) at (c .child-from .ensures .0)
+
+room : (c : tie.After-child-from Inv-loop μ-loop) → c .child-from .result < length (c .before .before .loop .marks)
+room c = let s = c .before .before .before .before .before .before .before in
+    omega (arith, child-is c, s .pre .0 .sound .below (s .args .g) (c .before .before .loop .j) (omega arith) (omega arith))
 
 loop-again : tie.Need-loop-again Inv-loop μ-loop
 unfolding paint
 loop-again c = let l = c .before .before .before .before .loop in
-    let s = c .before .before .before .before .before .before .before .before in (
+    let s = c .before .before .before .before .before .before .before .before .before in (
       omega arith,
       (
-        rw (paint-next below (λ i. childAt (now (s .args .map)) (s .args .g) i) (l .j) (now (s .args .marks)), ← l .inv .1 .0, ← c .before .before .child .ensures .0, ← c .mark-below .ensures),
+        rw (paint-next below (λ i. childAt (now (s .args .map)) (s .args .g) i) (l .j) (now (s .args .marks)), ← l .inv .1 .0, ← child-is (c .before .before), ← c .mark-below .ensures),
         simp length-set (l .inv .1 .1),
       ),
     )
@@ -48,7 +54,7 @@ loop-again c = let l = c .before .before .before .before .loop in
 returns : tie.Need-returns Inv-loop μ-loop
 unfolding kidsOf
 returns c = let l = c .before .loop in
-    let s = c .before .before .before .before .before in
+    let s = c .before .before .before .before .before .before in
     let e : fanIn (now (s .args .map)) (s .args .g) ≡ l .j = omega arith in
     rw e (l .inv .1 .0)
 
@@ -59,11 +65,12 @@ mark-children-spec =
     Inv-loop
     μ-loop
     (λ c κs. search needs)
+    (λ c κs. search needs)
     loop-holds
+    child-from-requires
+    (λ c. room (c .before))
     (λ c κs. search needs)
-    slice-read-mark-below
-    (λ c κs. search needs)
-    slice-write-marks
+    (λ c. room (c .before .before))
     (λ c. search needs)
     (λ c. search needs)
     loop-again
