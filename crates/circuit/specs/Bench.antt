@@ -154,6 +154,9 @@ pub record Examples : Type 0 where
   pub no-sizes : (frontSize adder B ≡ 0) × (interestSize adder B ≡ 0)
   -- Of an AND at 0 in the cone only the child at 0 counts. Taking all of them passes P1 to P12 and demand 3.
   pub and-at-zero : survey nand (0 ∷ 1 ∷ 0 ∷ 1 ∷ []) ≡ 1 ∷ 0 ∷ 1 ∷ 1 ∷ []
+  -- A NOT is interesting like others (P9's start), and may be in the front (after its first move).
+  pub not-below : survey clash (0 ∷ 0 ∷ 1 ∷ []) ≡ 4 ∷ 4 ∷ 7 ∷ []
+  pub not-in-front : survey clash (1 ∷ 1 ∷ 1 ∷ []) ≡ 5 ∷ 7 ∷ 1 ∷ []
   -- AND at 1 and OR at 0 have a single option, which turns every wrong child and no other.
   pub and-at-one-options : downOptions clash (0 ∷ 0 ∷ 1 ∷ []) 2 ≡ pair 0 1 ∷ []
   pub and-wrong-alone : downOptions clash (1 ∷ 0 ∷ 1 ∷ []) 2 ≡ one 1 ∷ []

@@ -11,7 +11,7 @@ use Rattle.circuit.specs.Circuit.{Circuit, coded, gatesIn, on, justified
 
 -- A set of gates spread downwards, by one pass from gate n - 1 to gate 0: where gate g is in it, the gates `brings g` come in too.
 unfoldable pub spread : (ℕ → List ℕ) → ℕ → (ℕ → Bool) → ℕ → Bool
-spread brings n start = descend n (λ g now x. now x or (member x (brings g) and now g)) start
+spread brings n start = descend n (λ g m x. m x or (member x (brings g) and m g)) start
 
 -- "for each justified gate in it, these children": the children that gate g brings into the cone
 unfoldable pub reasons : Circuit → List ℕ → ℕ → List ℕ

@@ -7,11 +7,11 @@ use Rattle.circuit.specs.Bench.{adder}
 use Rattle.map.specs.Map.{u16At, fanInsBefore, codeAmong, kidsOf}
 use Rattle.map.specs.Check.{offsetsTest, kindFits, kindTest, positionTest, positionsTest, childTest, childrenTest, codeTest, freeTest, firstFailed, contentsTests, bodiesTests, mapTests, verdict, checked}
 use Rattle.map.specs.Children.{hasGate, stretchAt, stretchLength}
-use Rattle.map.specs.Bench.{adderBytes, Examples}
+use Rattle.map.specs.Bench.{adderBytes, gapBytes, twoCodesBytes, Examples}
 
 -- every definition that the examples compute with, under one name
 opened : ℕ
-unfolding _and_ _or_ allBelow inputsBefore adder u16At fanInsBefore codeAmong kidsOf offsetsTest kindFits kindTest positionTest positionsTest childTest childrenTest codeTest freeTest firstFailed contentsTests bodiesTests mapTests verdict checked hasGate stretchAt stretchLength adderBytes
+unfolding _and_ _or_ allBelow inputsBefore adder u16At fanInsBefore codeAmong kidsOf offsetsTest kindFits kindTest positionTest positionsTest childTest childrenTest codeTest freeTest firstFailed contentsTests bodiesTests mapTests verdict checked hasGate stretchAt stretchLength adderBytes gapBytes twoCodesBytes
 opened = 0
 
 pub examples : Examples
@@ -24,20 +24,28 @@ examples = record {
   no-gate = refl;
   many-gates = (refl, refl);
   offsets = (refl, (refl, refl));
-  long = refl;
+  lengths = (refl, refl);
   wraps = refl;
   kind-5 = refl;
   fan-ins = (refl, refl);
+  fan-ins-others = (refl, (refl, (refl, refl)));
   position = refl;
+  input-position = (refl, refl);
   kind-first = refl;
   total = refl;
   equal = refl;
   falling = refl;
   itself = refl;
+  position-first = refl;
   code-gate = refl;
   code-value = refl;
   code-zero = refl;
+  two-codes = refl;
+  falling-codes = refl;
+  equal-codes = refl;
+  child-first = refl;
   coded-child = (refl, refl);
+  code-first = refl;
   stretch = (refl, refl);
   empty = (refl, (refl, refl));
 }

@@ -33,6 +33,7 @@ pub fn fits(kind: u8, fan: u8) -> bool
 
 // What a gate of this kind gives where `ones` of its `fan` children are at 1.
 pub fn gives(kind: u8, fan: usize, ones: usize) -> bool
+    requires { ⌜ ones ≤ fan ⌝ }
     ensures { λ r. ⌜ GivesBy kind fan ones r ⌝ }
 {
     match kind {

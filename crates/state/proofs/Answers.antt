@@ -10,7 +10,7 @@ use Rattle.state.specs.declared.Written.the-variants.{Done}
 use Rattle.state.specs.declared.Written.the-variants as written-variants
 use Rattle.state.specs.declared.Marked.the-variants.{Yes, No}
 use Rattle.state.specs.declared.Marked.the-variants as marked-variants
-use Rattle.state.specs.State.{over, writes, evaluationBy, marks, markingBy}
+use Rattle.state.specs.State.{over, writes, evaluationBy, tells, markingBy}
 
 module _ (m row out : List ℕ) where
   pub refused-by : (k n : ℕ) → k ≡ n → (n ≡ 0 → ⊥) → writes (written-variants.Refused k) out ≡ evaluationBy n m row out
@@ -22,14 +22,14 @@ module _ (m row out : List ℕ) where
   done-by n w e q = rw (eq-eqb n 0 e, q)
 
 module _ (m s : List ℕ) (n : ℕ) where
-  pub mark-refused : (k : ℕ) → k ≡ n → (n ≡ 0 → ⊥) → marks (marked-variants.Refused k) ≡ markingBy n m s
-  unfolding marks markingBy
+  pub mark-refused : (k : ℕ) → k ≡ n → (n ≡ 0 → ⊥) → tells (marked-variants.Refused k) ≡ markingBy n m s
+  unfolding tells markingBy
   mark-refused k e h = rw (ne-eqb n 0 h, e)
 
-  pub mark-yes : n ≡ 0 → mark (circuit m) s ≡ true → marks Yes ≡ markingBy n m s
-  unfolding marks markingBy
+  pub mark-yes : n ≡ 0 → mark (circuit m) s ≡ true → tells Yes ≡ markingBy n m s
+  unfolding tells markingBy
   mark-yes e q = rw (eq-eqb n 0 e, q)
 
-  pub mark-no : n ≡ 0 → mark (circuit m) s ≡ false → marks No ≡ markingBy n m s
-  unfolding marks markingBy
+  pub mark-no : n ≡ 0 → mark (circuit m) s ≡ false → tells No ≡ markingBy n m s
+  unfolding tells markingBy
   mark-no e q = rw (eq-eqb n 0 e, q)

@@ -71,10 +71,10 @@ pub record Marking : Type 0 where
   pub yes : Bool
 
 -- document 01's number and value of each case of the answer
-unfoldable pub marks : Marked → Marking
-marks Yes = record { accepted = true; number = 0; yes = true }
-marks No = record { accepted = true; number = 0; yes = false }
-marks (marked-variants.Refused n) = record { accepted = false; number = n; yes = false }
+unfoldable pub tells : Marked → Marking
+tells Yes = record { accepted = true; number = 0; yes = true }
+tells No = record { accepted = true; number = 0; yes = false }
+tells (marked-variants.Refused n) = record { accepted = false; number = n; yes = false }
 
 unfoldable pub markingBy : ℕ → List ℕ → List ℕ → Marking
 markingBy n m s =

@@ -5,7 +5,7 @@ pub mod values;
 
 use map::Checked;
 ghost use mathlib.Core.Path.{_≡_};
-ghost use Rattle.state.specs.State.{writes, evaluation, marks, marking};
+ghost use Rattle.state.specs.State.{writes, evaluation, tells, marking};
 
 // Evaluate's answer: the values are written, or the number of the first test that fails.
 pub enum Written {
@@ -38,7 +38,7 @@ pub fn evaluate(map: &[u8], row: &[u8], out: &mut [u8]) -> Written
 
 // Does every gate that isn't an input have the value its children give, and every coded gate its code?
 pub fn mark(map: &[u8], configuration: &[u8]) -> Marked
-    ensures { λ r. ⌜ marks r ≡ marking (now (map .entry)) (now (configuration .entry)) ⌝ }
+    ensures { λ r. ⌜ tells r ≡ marking (now (map .entry)) (now (configuration .entry)) ⌝ }
 {
     match map::check(map) {
         Checked::Refused(k) => Marked::Refused(k),

@@ -11,7 +11,7 @@ ghost use Rattle.folds.specs.Folds.{allBelow};
 ghost use Rattle.circuit.specs.Circuit.{justified};
 ghost use Rattle.map.specs.Map.{gateCount, childCount, codeCount, codesAt, codeGate, codeValue, circuit};
 ghost use Rattle.map.specs.Check.{IsMap};
-ghost use Rattle.state.specs.State.{marks, configurationMarking, shownByRecord};
+ghost use Rattle.state.specs.State.{tells, configurationMarking, shownByRecord};
 
 // Is every gate an input, or do its children give its value?
 fn gates_right(map: &[u8], gates: usize, s: &[u8]) -> bool
@@ -55,7 +55,7 @@ pub fn codes_shown(map: &[u8], start: usize, codes: usize, s: &[u8]) -> bool
 // Tests 9 and 10, and the answer.
 pub fn mark_accepted(map: &[u8], gates: usize, children: usize, codes: usize, s: &[u8]) -> Marked
     requires { ⌜ IsMap (now map) × ((gates ≡ gateCount (now map)) × ((children ≡ childCount (now map)) × (codes ≡ codeCount (now map)))) ⌝ }
-    ensures { λ r. ⌜ marks r ≡ configurationMarking (now (map .entry)) (now (s .entry)) ⌝ }
+    ensures { λ r. ⌜ tells r ≡ configurationMarking (now (map .entry)) (now (s .entry)) ⌝ }
 {
     if s.len() != gates {
         return Marked::Refused(9);

@@ -12,7 +12,7 @@ use Rattle.circuit.specs.Tools.{byte}
 use Rattle.circuit.specs.Circuit.{Circuit, WellFormed, coded, justified}
 use Rattle.circuit.specs.Survey.{reasons, cone, inFront, front, frontSize}
 use Rattle.circuit.proofs.Cone.{reasons-kids}
-use Rattle.survey.specs.Marks.{coneMarks, paint, one, coneTurn, frontAt}
+use Rattle.survey.specs.Marks.{coneMarks, paint, toOne, coneTurn, frontAt}
 use Rattle.survey.proofs.Tables.{table-of, countFrom, count-none, count-more, count-all}
 use Rattle.survey.proofs.Pass.{From, begins, ends, mark-is, passes, turns}
 
@@ -37,7 +37,7 @@ module _ (c : Circuit) (s : List ℕ) (g : ℕ) (w : List ℕ) where
     unfolding coneTurn frontAt reasons paint
     turn-fronts z = let j = not-justified (justified c s g) u e z in (rw (ne-eqb (getD w g 0) 0 in-it, e, j), rw (ne-eqb (getD w g 0) 0 in-it, j))
 
-    pub turn-brings : u ≡ 0 → (v : List ℕ) → v ≡ paint one (reasons c s g) (set w g (1 + 2 * u)) → (v ≡ coneTurn c s g w) × (0 ≡ frontAt c s g w)
+    pub turn-brings : u ≡ 0 → (v : List ℕ) → v ≡ paint toOne (reasons c s g) (set w g (1 + 2 * u)) → (v ≡ coneTurn c s g w) × (0 ≡ frontAt c s g w)
     unfolding coneTurn frontAt
     turn-brings z v q = (q ∙ rw (ne-eqb (getD w g 0) 0 in-it, e), rw (ne-eqb (getD w g 0) 0 in-it, ← e, z))
 
@@ -83,11 +83,11 @@ module _ (c : Circuit) (s : List ℕ) where
     late-out : cone c s g ≡ false → coneMark g ≡ 0
     late-out q = rw (front-out g q, q)
 
-    turned : cone c s g ≡ true → ConeFrom g (paint one (reasons c s g) (set w g (coneMark g)))
+    turned : cone c s g ≡ true → ConeFrom g (paint toOne (reasons c s g) (set w g (coneMark g)))
     unfolding cone
-    turned q = turns (c .gates) (reasons c s) (coded c) coneMark reachMark brings-below g h w k one (λ b. refl) (λ x b. refl) q
+    turned q = turns (c .gates) (reasons c s) (coded c) coneMark reachMark brings-below g h w k toOne (λ b. refl) (λ x b. refl) q
 
-    turn-in : cone c s g ≡ true → ConeFrom g (paint one (reasons c s g) (set w g (1 + 2 * byte (not (justified c s g)))))
+    turn-in : cone c s g ≡ true → ConeFrom g (paint toOne (reasons c s g) (set w g (1 + 2 * byte (not (justified c s g)))))
     turn-in q = rw (← late-in q) (turned q)
 
     turn-out : cone c s g ≡ false → ConeFrom g w

@@ -15,7 +15,7 @@ use Rattle.circuit.specs.Circuit.{Circuit, WellFormed}
 use Rattle.circuit.specs.Survey.{cone, inFront, interest, survey, interestSize}
 use Rattle.circuit.proofs.Lists.{map-at, in-upTo, select-same}
 use Rattle.circuit.proofs.Spread.{spread-start}
-use Rattle.survey.specs.Marks.{coneMarks, paint, below, itself, interestTurn, interestCount}
+use Rattle.survey.specs.Marks.{coneMarks, paint, markBelow, markItself, interestTurn, interestCount}
 use Rattle.survey.proofs.Tables.{same-tables, length-table}
 use Rattle.survey.proofs.Pass.{From, begins, ends, mark-is, passes, turns}
 
@@ -32,8 +32,8 @@ early k f t = mark k f (t and not f)
 no-mark : {A : Type 0} → (true ≡ true → false ≡ true) → A
 no-mark h = absurd (false≢true (h refl))
 
-early-below : (k f t : Bool) → (f ≡ true → k ≡ true) → below (early k f t) ≡ early k f true
-unfolding below _and_
+early-below : (k f t : Bool) → (f ≡ true → k ≡ true) → markBelow (early k f t) ≡ early k f true
+unfolding markBelow _and_
 early-below false true true h = no-mark h
 early-below false true false h = no-mark h
 early-below true true true h = refl
@@ -43,24 +43,24 @@ early-below true false false h = refl
 early-below false false true h = refl
 early-below false false false h = refl
 
-early-itself : (k f : Bool) → (f ≡ true → k ≡ true) → itself (early k f true) ≡ mark k f true
-unfolding itself _and_
+early-itself : (k f : Bool) → (f ≡ true → k ≡ true) → markItself (early k f true) ≡ mark k f true
+unfolding markItself _and_
 early-itself false true h = no-mark h
 early-itself true true h = refl
 early-itself true false h = refl
 early-itself false false h = refl
 
--- below 2 are the marks of gates that are not interesting
-early-low : (k f t : Bool) → (f ≡ true → k ≡ true) → (f ≡ true → t ≡ true) → ltb (early k f t) 2 ≡ not t
+-- from 2 on are the marks of gates that are interesting
+early-high : (k f t : Bool) → (f ≡ true → k ≡ true) → (f ≡ true → t ≡ true) → leb 2 (early k f t) ≡ t
 unfolding _and_
-early-low true true false h i = no-mark i
-early-low false true true h i = no-mark h
-early-low false true false h i = no-mark h
-early-low true true true h i = refl
-early-low true false true h i = refl
-early-low true false false h i = refl
-early-low false false true h i = refl
-early-low false false false h i = refl
+early-high true true false h i = no-mark i
+early-high false true true h i = no-mark h
+early-high false true false h i = no-mark h
+early-high true true true h i = refl
+early-high true false true h i = refl
+early-high true false false h i = refl
+early-high false false true h i = refl
+early-high false false false h i = refl
 
 -- to begin with, the gates of the front are those that are reached
 early-start : (k f : Bool) → byte k + 2 * byte f ≡ early k f f
@@ -85,8 +85,8 @@ mark-high true false false h = refl
 mark-high false false true h = refl
 mark-high false false false h = refl
 
-below-twice : (b : ℕ) → below (below b) ≡ below b
-unfolding below
+below-twice : (b : ℕ) → markBelow (markBelow b) ≡ markBelow b
+unfolding markBelow
 below-twice b = elim (which (ltb b 2)) [
   | inl q ↦ rw (q, le-ltb (b + 4) 2 (omega arith))
   | inr q ↦ rw (q, q)
@@ -125,18 +125,18 @@ module _ (c : Circuit) (s : List ℕ) where
     unfolding interest
     marked = mark-is (c .gates) (c .kids) (inFront c s) lateMark earlyMark (ok .below) g h w k
 
-    low : ltb (getD w g 0) 2 ≡ not (interest c s g)
-    low = rw marked (early-low (cone c s g) (inFront c s g) (interest c s g) (front-cone g) (front-interest g))
+    high : leb 2 (getD w g 0) ≡ interest c s g
+    high = rw marked (early-high (cone c s g) (inFront c s g) (interest c s g) (front-cone g) (front-interest g))
 
-    turned : interest c s g ≡ true → InterestFrom g (paint below (c .kids g) (set w g (lateMark g)))
+    turned : interest c s g ≡ true → InterestFrom g (paint markBelow (c .kids g) (set w g (lateMark g)))
     unfolding interest
-    turned q = turns (c .gates) (c .kids) (inFront c s) lateMark earlyMark (ok .below) g h w k below below-twice
+    turned q = turns (c .gates) (c .kids) (inFront c s) lateMark earlyMark (ok .below) g h w k markBelow below-twice
         (λ x b. early-below (cone c s x) (inFront c s x) b (front-cone x)) q
 
-    late-in : interest c s g ≡ true → itself (getD w g 0) ≡ lateMark g
+    late-in : interest c s g ≡ true → markItself (getD w g 0) ≡ lateMark g
     late-in q = rw (marked, q) (early-itself (cone c s g) (inFront c s g) (front-cone g))
 
-    turn-in : interest c s g ≡ true → InterestFrom g (paint below (c .kids g) (set w g (itself (getD w g 0))))
+    turn-in : interest c s g ≡ true → InterestFrom g (paint markBelow (c .kids g) (set w g (markItself (getD w g 0))))
     turn-in q = rw (late-in q) (turned q)
 
     turn-out : interest c s g ≡ false → InterestFrom g w
@@ -146,7 +146,7 @@ module _ (c : Circuit) (s : List ℕ) where
 
     interest-turn : InterestFrom g (interestTurn c g w)
     unfolding interestTurn
-    interest-turn = rw low (elim (which (interest c s g)) [
+    interest-turn = rw high (elim (which (interest c s g)) [
       | inl q ↦ rw q (turn-in q)
       | inr q ↦ rw q (turn-out q)
     ])

@@ -1,14 +1,14 @@
 -- What Survey means. Assumes nothing.
 use Prim.Native.Nat.{ℕ}
-use mathlib.Core.Path.{_≡_, sym, ap, _∙_}
-use mathlib.Core.Bool.{true, false≢true}
+use mathlib.Core.Path.{_≡_, refl, sym, ap, _∙_}
+use mathlib.Core.Bool.{true, false≢true, true≢false}
 use mathlib.Core.Logic.{inl, inr}
 use mathlib.Core.List.{List, _++_}
 use native.Mathlib.Omega.{arith}
 use lib.Dec.{eqb, leb}
 use lib.ListN.{length, drop, length-append, length-drop, List·getD-append}
 use lib.Seq.{drop-at}
-use borrow.Author.Tests.{eqb-true, eq-eqb, leb-true}
+use borrow.Author.Tests.{eqb-true, eqb-false, eq-eqb, leb-true, le-leb}
 use Rattle.folds.proofs.Tests.{which}
 use Rattle.circuit.specs.Survey.{survey, frontSize, interestSize}
 use Rattle.circuit.proofs.Survey.{survey-is}
@@ -19,7 +19,7 @@ use Rattle.map.proofs.Accepted.{facts, well-formed}
 use Rattle.map.proofs.Answers.{behind-accepted}
 use Rattle.state.specs.State.{over}
 use Rattle.state.proofs.Meaning.{behind}
-use Rattle.survey.specs.Survey.{startTests, surveyTests, surveyingBy, surveying, SurveyWrites, SurveyAccepts}
+use Rattle.survey.specs.Survey.{startTests, surveyTests, surveyingBy, surveying, SurveyWrites, SurveyAccepts, SurveyDeclines}
 use Rattle.survey.proofs.Starts.{behind-start, start-of, of-start}
 
 module _ (m s out : List ℕ) where
@@ -59,6 +59,7 @@ survey-writes m s out e =
     let l : length (survey (circuit m) s) ≡ gateCount m = f .long in
     rw (written m s out n) (record {
       start = start-of m s k;
+      room = simp (length-append, length-drop) (omega (arith, leb-true (gateCount m) (length out) r));
       bytes = λ g h. record {
         cone = _;
         front = _;
@@ -76,6 +77,13 @@ survey-writes m s out e =
 
 pub survey-accepts : SurveyAccepts
 survey-accepts m s out = (
-  λ e. (let (v, t) = behind m (surveyTests m s out) (none m s out e) in let (k, r) = room m s out t in (v, (start-of m s k, r))),
-  λ a. accepted m s out (behind-accepted m _ (a .0) ∙ of-room m s out (of-start m s (a .1 .0)) (a .1 .1)),
+  λ e. (let (v, t) = behind m (surveyTests m s out) (none m s out e) in let (k, r) = room m s out t in (v, (start-of m s k, leb-true (gateCount m) (length out) r))),
+  λ a. accepted m s out (behind-accepted m _ (a .0) ∙ of-room m s out (of-start m s (a .1 .0)) (le-leb (gateCount m) (length out) (a .1 .1))),
 )
+
+pub survey-declines : SurveyDeclines
+unfolding surveying surveyingBy
+survey-declines m s out e = elim (which (eqb (number m s out) 0)) [
+  | inl q ↦ absurd (true≢false (rw q at e))
+  | inr q ↦ rw q (record { numbered = eqb-false (number m s out) 0 q; sizes = (refl, refl); untouched = refl })
+]

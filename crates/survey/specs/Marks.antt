@@ -20,30 +20,36 @@ paint f (x ∷ xs) w = paint f xs (set w x (f (getD w x 0)))
 
 -- ---- the pass for cone and front
 
-abbrev pub one : ℕ → ℕ
-one b = 1
+abbrev pub toOne : ℕ → ℕ
+toOne b = 1
 
--- the marks after gate g's turn, and 1 if it is in the front, else 0
+-- the marks after gate g's turn
 unfoldable pub coneTurn : Circuit → List ℕ → ℕ → List ℕ → List ℕ
-coneTurn c s g w = cond (eqb (getD w g 0) 0) w (paint one (reasons c s g) (set w g (1 + 2 * byte (not (justified c s g)))))
+coneTurn c s g w = cond (eqb (getD w g 0) 0) w (paint toOne (reasons c s g) (set w g (1 + 2 * byte (not (justified c s g)))))
 
+-- 1 if gate g is in the front, else 0
 unfoldable pub frontAt : Circuit → List ℕ → ℕ → List ℕ → ℕ
 frontAt c s g w = cond (eqb (getD w g 0) 0) 0 (byte (not (justified c s g)))
 
 -- ---- the pass for the interest set
 
--- the mark of a gate below an interesting one: 4 more, but where it has them, and in the front, where it gets them at its own turn
-unfoldable pub below : ℕ → ℕ
-below b = cond (ltb b 2) (b + 4) b
+-- the mark of a gate below an interesting one: 4 more, except where it has them, and except in the front, whose gates get them at their own turn
+unfoldable pub markBelow : ℕ → ℕ
+markBelow b = cond (ltb b 2) (b + 4) b
 
 -- the mark of an interesting gate at its turn
-unfoldable pub itself : ℕ → ℕ
-itself b = cond (eqb b 3) 7 b
+unfoldable pub markItself : ℕ → ℕ
+markItself b = cond (eqb b 3) 7 b
 
+-- the marks after gate g's turn: those from 2 on are of the front, or interesting
 unfoldable pub interestTurn : Circuit → ℕ → List ℕ → List ℕ
-interestTurn c g w = cond (ltb (getD w g 0) 2) w (paint below (c .kids g) (set w g (itself (getD w g 0))))
+interestTurn c g w = cond (leb 2 (getD w g 0)) (paint markBelow (c .kids g) (set w g (markItself (getD w g 0)))) w
 
--- marks that are the cone and the front of a configuration have become its survey
+-- marks that are the cone and the front of some configuration
+abbrev pub ConeMarked : Circuit → List ℕ → Type 0
+ConeMarked c w = (s : List ℕ) × (w ≡ coneMarks c s)
+
+-- and that have become the survey of that configuration
 abbrev pub Completed : Circuit → List ℕ → List ℕ → Type 0
 Completed c before after = (s : List ℕ) → before ≡ coneMarks c s → after ≡ survey c s
 

@@ -1,5 +1,5 @@
 -- Document 01's Survey, on bytes. Assumes nothing.
-use Prim.Native.Nat.{ℕ, _+_, _*_, _<_}
+use Prim.Native.Nat.{ℕ, _+_, _*_, _<_, _≤_}
 use mathlib.Core.Path.{_≡_}
 use mathlib.Core.Logic.{_↔_}
 use mathlib.Core.Bool.{Bool, true, false, cond}
@@ -20,11 +20,11 @@ use Rattle.survey.specs.declared.Surveyed.the-variants.{Done, Refused}
 
 -- ---- the tests
 
--- "11. For Survey, Move and Run: a coded gate's value isn't its code.": true where every one is
+-- "11. For Survey, Move and Run: a coded gate's value isn't its code.": true where each coded gate's value is its code
 unfoldable pub codesTest : List ℕ → List ℕ → Bool
 codesTest m s = allBelow (gateCount m) (λ g. showsCode (circuit m .code g) (on s g))
 
--- of a configuration from which a search goes on: 9, 10 and 11
+-- 9, 10 and 11: a configuration from which a search may start. Survey's is tested like a start.
 unfoldable pub startTests : List ℕ → List ℕ → List (ℕ × Bool)
 startTests m s = configurationTests m s ++ ((11, codesTest m s) ∷ [])
 
@@ -71,8 +71,9 @@ pub record SurveyByte (b : ℕ) (InCone InFront IsInteresting : Type 0) : Type 0
   pub interest-is : (interest ≡ true) ↔ IsInteresting
 
 -- The bytes and sizes are those of 001's cone, front and interest set (with document 01's two differences); the surplus stands.
-pub record Surveys (m s out : List ℕ) (r : Surveying) : Type 0 where
+pub record SurveyMeans (m s out : List ℕ) (r : Surveying) : Type 0 where
   pub start : KeepsCodes (circuit m) s
+  pub room : gateCount m ≤ length (r .out)
   pub bytes : (g : ℕ) → g < gateCount m → SurveyByte (getD (r .out) g 0) (Cone (circuit m) s g) (Front (circuit m) s g) (Interesting (circuit m) s g)
   pub surplus : drop (gateCount m) (r .out) ≡ drop (gateCount m) out
   pub long : length (r .out) ≡ length out
@@ -80,15 +81,24 @@ pub record Surveys (m s out : List ℕ) (r : Surveying) : Type 0 where
   pub interest-size : Size (Interesting (circuit m) s) (r .interest)
 
 abbrev pub SurveyWrites : Type 0
-SurveyWrites = (m s out : List ℕ) → surveying m s out .accepted ≡ true → Surveys m s out (surveying m s out)
+SurveyWrites = (m s out : List ℕ) → surveying m s out .accepted ≡ true → SurveyMeans m s out (surveying m s out)
 
 -- Survey is accepted exactly for accepted maps, starts that keep the codes, and memory that is long enough.
 abbrev pub SurveyAccepts : Type 0
 SurveyAccepts =
-    (m s out : List ℕ) → (surveying m s out .accepted ≡ true) ↔ ((verdict m ≡ 0) × (KeepsCodes (circuit m) s × (leb (gateCount m) (length out) ≡ true)))
+    (m s out : List ℕ) → (surveying m s out .accepted ≡ true) ↔ ((verdict m ≡ 0) × (KeepsCodes (circuit m) s × (gateCount m ≤ length out)))
+
+-- Declined, it gives a number, "leaves all lent memory untouched; the other numbers of its answer .. are then 0".
+pub record Declined (out : List ℕ) (r : Surveying) : Type 0 where
+  pub numbered : ¬ (r .number ≡ 0)
+  pub sizes : (r .front ≡ 0) × (r .interest ≡ 0)
+  pub untouched : r .out ≡ out
+
+abbrev pub SurveyDeclines : Type 0
+SurveyDeclines = (m s out : List ℕ) → surveying m s out .accepted ≡ false → Declined out (surveying m s out)
 
 -- ---- for inner functions
 
 -- Survey behind the map's tests
-unfoldable pub startSurveying : List ℕ → List ℕ → List ℕ → Surveying
-startSurveying m s out = surveyingBy (firstFailed (surveyTests m s out)) m s out
+unfoldable pub configurationSurveying : List ℕ → List ℕ → List ℕ → Surveying
+configurationSurveying m s out = surveyingBy (firstFailed (surveyTests m s out)) m s out

@@ -13,7 +13,7 @@ ghost use Rattle.circuit.specs.Circuit.{on, justified};
 ghost use Rattle.circuit.specs.Survey.{reasons, frontSize};
 ghost use Rattle.map.specs.Map.{gateCount, childCount, codeCount, circuit};
 ghost use Rattle.map.specs.Check.{IsMap, CodeMarks};
-ghost use Rattle.survey.specs.Marks.{coneMarks, paint, one, coneTurn, frontAt};
+ghost use Rattle.survey.specs.Marks.{coneMarks, paint, toOne, coneTurn, frontAt};
 
 // Sets every mark to 0.
 fn clear(marks: &mut [u8])
@@ -42,7 +42,7 @@ fn unjustified(map: &[u8], gates: usize, g: usize, s: &[u8]) -> u8
 // Child x of a justified gate of this kind and value comes into the cone if it is relevant.
 fn mark_child(kind: u8, v: bool, x: usize, s: &[u8], marks: &mut [u8])
     requires { ⌜ (x < length (now s)) × (x < length (now marks)) ⌝ }
-    ensures { λ _. ⌜ now (marks .exit) ≡ paint one (select (λ y. relevant (kindOf kind) v (on (now (s .entry)) y)) (x ∷ [])) (now (marks .entry)) ⌝ }
+    ensures { λ _. ⌜ now (marks .exit) ≡ paint toOne (select (λ y. relevant (kindOf kind) v (on (now (s .entry)) y)) (x ∷ [])) (now (marks .entry)) ⌝ }
 {
     if kinds::relevant(kind, v, s[x] == 1) {
         marks[x] = 1;
@@ -53,7 +53,7 @@ fn mark_child(kind: u8, v: bool, x: usize, s: &[u8], marks: &mut [u8])
 fn mark_children(map: &[u8], gates: usize, g: usize, s: &[u8], marks: &mut [u8])
     requires { ⌜ IsMap (now map) × ((gates ≡ gateCount (now map)) × ((g < gates) × ((gates ≤ length (now s)) × (gates ≤ length (now marks))))) ⌝ }
     requires { ⌜ justified (circuit (now map)) (now s) g ≡ true ⌝ }
-    ensures { λ _. ⌜ now (marks .exit) ≡ paint one (reasons (circuit (now (map .entry))) (now (s .entry)) g) (now (marks .entry)) ⌝ }
+    ensures { λ _. ⌜ now (marks .exit) ≡ paint toOne (reasons (circuit (now (map .entry))) (now (s .entry)) g) (now (marks .entry)) ⌝ }
 {
     let kind = decode::kind(map, gates, g);
     let v = s[g] == 1;

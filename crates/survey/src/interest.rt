@@ -7,26 +7,33 @@ ghost use lib.Dec.{leb};
 ghost use Rattle.circuit.specs.Tools.{byte, upTo, select};
 ghost use Rattle.map.specs.Map.{gateCount, kidsOf, circuit};
 ghost use Rattle.map.specs.Check.{IsMap};
-ghost use Rattle.survey.specs.Marks.{paint, below, itself, interestTurn, Completed, interestCount};
+ghost use Rattle.survey.specs.Marks.{paint, markBelow, markItself, interestTurn, ConeMarked, Completed, interestCount};
 
 // The mark of a gate below an interesting one. One that is in the front waits for its own turn.
 fn mark_below(b: u8) -> u8
-    ensures { λ r. ⌜ r ≡ below b ⌝ }
+    ensures { λ r. ⌜ r ≡ markBelow b ⌝ }
 {
     if b < 2 { b + 4 } else { b }
 }
 
 // The mark of an interesting gate, at its turn.
 fn mark_itself(b: u8) -> u8
-    ensures { λ r. ⌜ r ≡ itself b ⌝ }
+    ensures { λ r. ⌜ r ≡ markItself b ⌝ }
 {
     if b == 3 { 7 } else { b }
+}
+
+// Is a gate with this mark, at its turn, in the front or below an interesting one?
+fn interesting(b: u8) -> bool
+    ensures { λ r. ⌜ r ≡ leb 2 b ⌝ }
+{
+    2 <= b
 }
 
 // The children of gate g are interesting.
 fn mark_children(map: &[u8], gates: usize, g: usize, marks: &mut [u8])
     requires { ⌜ IsMap (now map) × ((gates ≡ gateCount (now map)) × ((g < gates) × (gates ≤ length (now marks)))) ⌝ }
-    ensures { λ _. ⌜ now (marks .exit) ≡ paint below (kidsOf (now (map .entry)) g) (now (marks .entry)) ⌝ }
+    ensures { λ _. ⌜ now (marks .exit) ≡ paint markBelow (kidsOf (now (map .entry)) g) (now (marks .entry)) ⌝ }
 {
     let fan = decode::fan_in(map, gates, g);
     let first = decode::first_child(map, gates, g);
@@ -43,7 +50,7 @@ fn mark_gate(map: &[u8], gates: usize, g: usize, marks: &mut [u8])
     requires { ⌜ IsMap (now map) × ((gates ≡ gateCount (now map)) × ((g < gates) × (gates ≤ length (now marks)))) ⌝ }
     ensures { λ _. ⌜ now (marks .exit) ≡ interestTurn (circuit (now (map .entry))) g (now (marks .entry)) ⌝ }
 {
-    if marks[g] < 2 {
+    if !interesting(marks[g]) {
         return;
     }
     marks[g] = mark_itself(marks[g]);
@@ -53,6 +60,7 @@ fn mark_gate(map: &[u8], gates: usize, g: usize, marks: &mut [u8])
 // Marks that are the cone and the front of a configuration become its survey.
 pub fn mark(map: &[u8], gates: usize, marks: &mut [u8])
     requires { ⌜ IsMap (now map) × ((gates ≡ gateCount (now map)) × (gates ≡ length (now marks))) ⌝ }
+    requires { ⌜ ConeMarked (circuit (now map)) (now marks) ⌝ }
     ensures { λ _. ⌜ Completed (circuit (now (map .entry))) (now (marks .entry)) (now (marks .exit)) ⌝ }
 {
     let mut g = gates;

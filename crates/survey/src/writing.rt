@@ -10,7 +10,7 @@ ghost use lib.ListN.{length};
 ghost use Rattle.circuit.specs.Survey.{survey, frontSize, interestSize};
 ghost use Rattle.map.specs.Map.{gateCount, childCount, codeCount, circuit};
 ghost use Rattle.map.specs.Check.{IsMap};
-ghost use Rattle.survey.specs.Survey.{reports, startSurveying};
+ghost use Rattle.survey.specs.Survey.{reports, configurationSurveying};
 
 // Writes the survey of s into marks. Returns its sizes.
 fn write(
@@ -43,7 +43,7 @@ pub fn survey_accepted(
     out: &mut [u8],
 ) -> Surveyed
     requires { ⌜ IsMap (now map) × ((gates ≡ gateCount (now map)) × ((children ≡ childCount (now map)) × (codes ≡ codeCount (now map)))) ⌝ }
-    ensures { λ r. ⌜ reports r (now (out .exit)) ≡ startSurveying (now (map .entry)) (now (s .entry)) (now (out .entry)) ⌝ }
+    ensures { λ r. ⌜ reports r (now (out .exit)) ≡ configurationSurveying (now (map .entry)) (now (s .entry)) (now (out .entry)) ⌝ }
 {
     let number = start::failed(map, gates, children, codes, s);
     if number != 0 {

@@ -4,7 +4,7 @@ use Rattle.map.specs.declared.Counts.{Counts}
 use Rattle.map.specs.Check.{verdict, says, countsOf}
 use Rattle.map.proofs.Accepted.{facts}
 use Rattle.map.proofs.Answers.{was-accepted, was-refused, behind-declined, behind-accepted}
-use Rattle.survey.specs.Survey.{surveying, startSurveying}
+use Rattle.survey.specs.Survey.{surveying, configurationSurveying}
 use Rattle.survey.proofs.Answers.{refused-by}
 use borrow.Author.Needs.{needs}
 use Rattle.survey.proofs.survey.Statement.{statement}
@@ -30,7 +30,7 @@ returns c = let d = was-refused _ _ (ap says (sym (c .before .k .given .1)) ∙ 
     refused-by _ _ _ _ _ (d .0 ∙ sym e) (λ z. d .1 (sym e ∙ z))
 
 returns-2 : tie.Need-returns-2
-unfolding surveying startSurveying
+unfolding surveying configurationSurveying
 returns-2 c = let t = told (c .before .before .before .before .before) in
     c .before .before .survey-accepted .ensures ∙ rw (behind-accepted _ _ (t .0))
 

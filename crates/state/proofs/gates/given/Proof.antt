@@ -1,4 +1,11 @@
 use denote.Ref.{now}
+use Prim.Native.Nat.{ℕ}
+use mathlib.Core.Bool.{Bool}
+use native.Mathlib.Omega.{arith}
+use Rattle.circuit.specs.Tools.{upTo}
+use Rattle.circuit.specs.Circuit.{on}
+use Rattle.circuit.proofs.Lists.{select-length, length-upTo}
+use Rattle.map.specs.Map.{fanIn, childAt}
 use Rattle.map.proofs.Count.{given-count}
 use borrow.Author.Needs.{needs}
 use Rattle.state.proofs.gates.given.Statement.{statement}
@@ -10,6 +17,12 @@ use Rattle.map.proofs.decode.kind.Reads as kind-reads
 use Rattle.map.proofs.kinds.gives.Reads as gives-reads
 use Rattle.state.proofs.gates.ones.Reads as ones-reads
 
+gives-requires : tie.Need-gives-requires
+gives-requires c κs = let s = c .before .before .before .before .before in
+    let p : ℕ → Bool = λ j. on (now (s .args .s)) (childAt (now (s .args .map)) (s .args .g) j) in
+    let n = fanIn (now (s .args .map)) (s .args .g) in
+    omega (arith, select-length p (upTo n), length-upTo n)
+
 returns : tie.Need-returns
 returns c = let s = c .before .before .before .before .before .before in
     given-count (now (s .args .map)) (now (s .args .s)) (s .args .g) (c .gives .result)
@@ -17,4 +30,4 @@ returns c = let s = c .before .before .before .before .before .before in
 
 pub given-spec : {M : Type 1} → statement M
 given-spec =
-    tie.close (tie.spec (λ c κs. search needs) (λ c κs. search needs) (λ c κs. search needs) (λ c κs. search needs) returns)
+    tie.close (tie.spec (λ c κs. search needs) (λ c κs. search needs) (λ c κs. search needs) gives-requires returns)

@@ -9,7 +9,7 @@ use lib.ListN.{length}
 use Rattle.circuit.specs.Tools.{upTo, select}
 use Rattle.circuit.specs.Survey.{reasons}
 use Rattle.map.specs.Map.{fanIn, childAt, kidsOf}
-use Rattle.survey.specs.Marks.{paint, one}
+use Rattle.survey.specs.Marks.{paint, toOne}
 use Rattle.survey.proofs.Tables.{paint-none, paint-select}
 use borrow.Author.Needs.{needs}
 use Rattle.survey.proofs.cone.mark_children.Statement.{statement}
@@ -23,7 +23,7 @@ use Rattle.map.proofs.decode.kind.Reads as kind-reads
 use Rattle.survey.proofs.cone.mark_child.Reads as mark-child-reads
 
 abbrev Inv-loop : tie.InvT-loop
-Inv-loop m gates g s marks₀ kind v fan first j₀ marks j = (j ≤ fan) × ((marks ≡ paint one (select (λ y. relevant (kindOf kind) v (on s y)) (map (λ i. childAt m g i) (upTo j))) marks₀) × (length marks ≡ length marks₀))
+Inv-loop m gates g s marks₀ kind v fan first j₀ marks j = (j ≤ fan) × ((marks ≡ paint toOne (select (λ y. relevant (kindOf kind) v (on s y)) (map (λ i. childAt m g i) (upTo j))) marks₀) × (length marks ≡ length marks₀))
 
 abbrev μ-loop : tie.MeasureT-loop
 μ-loop m gates g s marks₀ kind v fan first j₀ marks j = fan - j
@@ -51,7 +51,7 @@ loop-again c = let l = c .before .before .before .before .before .before .loop i
       omega arith,
       (
         c .before .before .mark-child .ensures
-            ∙ rw (child-is (c .before .before .before .before), l .inv .1 .0) (sym (paint-select one (λ i. childAt (now (s .args .map)) (s .args .g) i) _ (l .j) _)),
+            ∙ rw (child-is (c .before .before .before .before), l .inv .1 .0) (sym (paint-select toOne (λ i. childAt (now (s .args .map)) (s .args .g) i) _ (l .j) _)),
         c .before .before .mark-child .kept .1 .1 .1 .1 .0 ∙ l .inv .1 .1,
       ),
     )

@@ -22,11 +22,11 @@ abbrev μ-loop : tie.MeasureT-loop
 
 loop-holds : tie.Need-loop-holds Inv-loop μ-loop
 loop-holds c = let s = c .before .before in
-    (omega arith, (λ t e. rw (s .pre .1 .0) (interest-begins _ t _ e), refl))
+    (omega arith, (λ t e. rw (s .pre .0 .1 .0) (interest-begins _ t _ e), refl))
 
 mark-gate-requires : tie.Need-mark-gate-requires Inv-loop μ-loop
 mark-gate-requires c κs = let s = c .before .before .before .before .before in
-    (s .pre .0, (s .pre .1 .0, (omega arith, omega arith)))
+    (s .pre .0 .0, (s .pre .0 .1 .0, (omega arith, omega arith)))
 
 loop-again : tie.Need-loop-again Inv-loop μ-loop
 loop-again c = let l = c .before .before .before .before .before .loop in
@@ -34,7 +34,7 @@ loop-again c = let l = c .before .before .before .before .before .loop in
       omega arith,
       (
         λ t e. rw (c .before .before .mark-gate .ensures)
-            (interest-step _ t (well-formed _ (s .pre .0)) (l .g) (c .before .before .before .before .loop-test .taken) (omega arith) (l .marks) (l .inv .1 .0 t e)),
+            (interest-step _ t (well-formed _ (s .pre .0 .0)) (l .g) (c .before .before .before .before .loop-test .taken) (omega arith) (l .marks) (l .inv .1 .0 t e)),
         c .before .before .mark-gate .kept .1 .1 .1 .0 ∙ l .inv .1 .1,
       ),
     )

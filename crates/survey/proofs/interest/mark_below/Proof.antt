@@ -1,5 +1,5 @@
 use borrow.Author.Tests.{lt-ltb, le-ltb}
-use Rattle.survey.specs.Marks.{below}
+use Rattle.survey.specs.Marks.{markBelow}
 use borrow.Author.Needs.{needs}
 use Rattle.survey.proofs.interest.mark_below.Statement.{statement}
 use Rattle.survey.proofs.interest.mark_below.Tie as tie
@@ -7,11 +7,11 @@ use Rattle.survey.proofs.interest.mark_below.Reads as reads
 use Rattle.survey.proofs.interest.mark_below.Lts as lts
 
 returns : tie.Need-returns
-unfolding below
+unfolding markBelow
 returns c = rw (lt-ltb _ 2 (c .if1 .taken))
 
 returns-2 : tie.Need-returns-2
-unfolding below
+unfolding markBelow
 returns-2 c = rw (le-ltb _ 2 (c .if1 .left))
 
 pub mark-below-spec : {M : Type 1} → statement M

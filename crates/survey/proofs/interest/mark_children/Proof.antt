@@ -6,7 +6,7 @@ use mathlib.Core.List.{map}
 use lib.ListN.{length, length-set}
 use Rattle.circuit.specs.Tools.{upTo}
 use Rattle.map.specs.Map.{fanIn, childAt, kidsOf}
-use Rattle.survey.specs.Marks.{paint, below}
+use Rattle.survey.specs.Marks.{paint, markBelow}
 use Rattle.survey.proofs.Tables.{paint-none, paint-next}
 use borrow.Author.Needs.{needs}
 use Rattle.survey.proofs.interest.mark_children.Statement.{statement}
@@ -19,7 +19,7 @@ use Rattle.map.proofs.decode.fan_in.Reads as fan-in-reads
 use Rattle.survey.proofs.interest.mark_below.Reads as mark-below-reads
 
 abbrev Inv-loop : tie.InvT-loop
-Inv-loop m gates g marks₀ fan first j₀ marks j = (j ≤ fan) × ((marks ≡ paint below (map (λ i. childAt m g i) (upTo j)) marks₀) × (length marks ≡ length marks₀))
+Inv-loop m gates g marks₀ fan first j₀ marks j = (j ≤ fan) × ((marks ≡ paint markBelow (map (λ i. childAt m g i) (upTo j)) marks₀) × (length marks ≡ length marks₀))
 
 abbrev μ-loop : tie.MeasureT-loop
 μ-loop m gates g marks₀ fan first j₀ marks j = fan - j
@@ -46,7 +46,7 @@ loop-again c = let l = c .before .before .before .before .loop in
     let s = c .before .before .before .before .before .before .before .before .before in (
       omega arith,
       (
-        rw (paint-next below (λ i. childAt (now (s .args .map)) (s .args .g) i) (l .j) (now (s .args .marks)), ← l .inv .1 .0, ← child-is (c .before .before), ← c .mark-below .ensures),
+        rw (paint-next markBelow (λ i. childAt (now (s .args .map)) (s .args .g) i) (l .j) (now (s .args .marks)), ← l .inv .1 .0, ← child-is (c .before .before), ← c .mark-below .ensures),
         simp length-set (l .inv .1 .1),
       ),
     )

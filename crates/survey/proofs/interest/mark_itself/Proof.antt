@@ -1,16 +1,16 @@
 use borrow.Author.Tests.{eq-eqb, ne-eqb}
-use Rattle.survey.specs.Marks.{itself}
+use Rattle.survey.specs.Marks.{markItself}
 use Rattle.survey.proofs.interest.mark_itself.Statement.{statement}
 use Rattle.survey.proofs.interest.mark_itself.Tie as tie
 use Rattle.survey.proofs.interest.mark_itself.Reads as reads
 use Rattle.survey.proofs.interest.mark_itself.Lts as lts
 
 returns : tie.Need-returns
-unfolding itself
+unfolding markItself
 returns c = rw (eq-eqb _ 3 (c .if1 .taken))
 
 returns-2 : tie.Need-returns-2
-unfolding itself
+unfolding markItself
 returns-2 c = rw (ne-eqb _ 3 (c .if1 .left))
 
 pub mark-itself-spec : {M : Type 1} → statement M

@@ -10,7 +10,7 @@ use Rattle.map.specs.Map.{gateCount, circuit}
 use Rattle.map.specs.Check.{firstFailed}
 use Rattle.map.proofs.Laws.{past, stop, no-test, fails-before}
 use Rattle.map.proofs.Accepted.{well-formed}
-use Rattle.survey.specs.Survey.{startTests, surveyTests, startSurveying}
+use Rattle.survey.specs.Survey.{startTests, surveyTests, configurationSurveying}
 use Rattle.survey.proofs.Starts.{behind-start, start-of}
 use Rattle.survey.proofs.Answers.{refused-by, done-by}
 use borrow.Author.Needs.{needs}
@@ -26,12 +26,12 @@ passed : (c : tie.Else1) → firstFailed (startTests (now (c .before .before .be
 passed c = sym (c .before .failed .ensures) ∙ c .if1 .left
 
 returns : tie.Need-returns
-unfolding startSurveying surveyTests
+unfolding configurationSurveying surveyTests
 returns c = let e = fails-before (startTests _ _) _ (λ z. c .if1 .taken (c .before .failed .ensures ∙ z)) in
     refused-by _ _ _ _ _ (c .before .failed .ensures ∙ sym e) (λ z. c .if1 .taken (c .before .failed .ensures ∙ sym e ∙ z))
 
 returns-2 : tie.Need-returns-2
-unfolding startSurveying surveyTests
+unfolding configurationSurveying surveyTests
 returns-2 c = let s = c .before .before .before .before .before .before in
     let h : length (now (s .args .out)) < gateCount (now (s .args .map)) = omega arith in
     let e = behind-start _ _ _ (passed (c .before)) ∙ stop _ _ _ (lt-leb _ _ h) in
@@ -47,7 +47,7 @@ write-requires c κs = let q = c .before in
     (s .pre, (omega (arith, start-of _ _ (passed (q .before)) .configuration .long), sym (length-take-le _ _ (omega arith))))
 
 returns-3 : tie.Need-returns-3
-unfolding startSurveying surveyTests
+unfolding configurationSurveying surveyTests
 returns-3 c = let q = c .before .before .before .before in
     let s = q .before .before .before .before .before .before in
     let m = now (s .args .map) in
