@@ -17,6 +17,10 @@ use Rattle.circuit.proofs.Lists.{select-in, in-select, in-upTo, upTo-in
 use Rattle.circuit.proofs.Spread.{spread-start, spread-closed}
 use Rattle.circuit.proofs.Evaluate.{agrees}
 
+pub front-cone : (c : Circuit) (s : List ℕ) (g : ℕ) → inFront c s g ≡ true → cone c s g ≡ true
+unfolding inFront
+front-cone c s g e = and-left _ _ e
+
 module _ (c : Circuit) (ok : WellFormed c) (s : List ℕ) where
   -- ---- a gate with its children, for the laws of its kind
 

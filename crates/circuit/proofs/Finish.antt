@@ -15,7 +15,8 @@ use Rattle.circuit.specs.Tools.{upTo, isEmpty}
 use Rattle.circuit.specs.Circuit.{Circuit, isSome, coded, WellFormed, on}
 use Rattle.circuit.specs.Evaluate.{Satisfying, KeepsCodes, differ}
 use Rattle.circuit.specs.Survey.{inFront, front}
-use Rattle.circuit.specs.Run.{Entry, drawn, downOptions, optionAt, turn, chosen, turned, after, run, answer}
+use Rattle.circuit.specs.declared.Entry.{Entry}
+use Rattle.circuit.specs.Run.{drawn, downOptions, optionAt, turn, chosen, turned, after, run, answer}
 use Rattle.circuit.specs.Promise.{NotGreedy, optionByte, FinishingTape, Demand3OnCircuits}
 use Rattle.circuit.proofs.Values.{agree, unequal}
 use Rattle.circuit.proofs.Lists.{place, pick-at, select-none, in-upTo}

@@ -242,6 +242,13 @@ select-append p (x ∷ xs) ys = elim (which (p x)) [
   | inr q ↦ rw q (select-append p xs ys)
 ]
 
+pub select-images : {A B : Type 0} (f : A → B) (p : B → Bool) (xs : List A) → select p (map f xs) ≡ map f (select (λ x. p (f x)) xs)
+select-images f p [] = refl
+select-images f p (x ∷ xs) = elim (which (p (f x))) [
+  | inl q ↦ rw q (ap (λ (l : List _). f x ∷ l) (select-images f p xs))
+  | inr q ↦ rw q (select-images f p xs)
+]
+
 module _ (p : ℕ → Bool) where
   abbrev pub place-of : ℕ → ℕ
   place-of g = length (select p (upTo g))

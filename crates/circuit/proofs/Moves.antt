@@ -16,7 +16,8 @@ use Rattle.circuit.specs.Tools.{holdsOfAll, isEmpty, pick}
 use Rattle.circuit.specs.Circuit.{Circuit, coded, WellFormed, justified}
 use Rattle.circuit.specs.Evaluate.{KeepsCodes}
 use Rattle.circuit.specs.Survey.{front, frontSize, interestSize}
-use Rattle.circuit.specs.Run.{Entry, drawn, downOptions, optionAt, turn, greedyOptions, chosen, turned}
+use Rattle.circuit.specs.declared.Entry.{Entry}
+use Rattle.circuit.specs.Run.{drawn, downOptions, optionAt, turn, greedyOptions, chosen, turned}
 use Rattle.circuit.specs.Source001.{OptionOf}
 use Rattle.circuit.specs.Promise.{NoFront, GreedyOptionsAre, DownTurns, Turns, EntryDone, MoveIs}
 use Rattle.circuit.proofs.Lists.{select-in, in-select, select-same, all-in, in-all, least, in-length, some-isEmpty, isEmpty-none, pick-in, sub-length}

@@ -12,7 +12,8 @@ use Rattle.circuit.specs.Tools.{isEmpty}
 use Rattle.circuit.specs.Circuit.{Circuit, WellFormed}
 use Rattle.circuit.specs.Evaluate.{KeepsCodes, differ}
 use Rattle.circuit.specs.Survey.{front, frontSize}
-use Rattle.circuit.specs.Run.{Entry, move, Ended, stop, after, run}
+use Rattle.circuit.specs.declared.Entry.{Entry}
+use Rattle.circuit.specs.Run.{move, Ended, stop, after, run}
 use Rattle.circuit.specs.Promise.{NoFront, EntryDone, config, Promised, Demand2OnCircuits}
 use Rattle.circuit.proofs.Found.{answer-is, answer-satisfies}
 use Rattle.circuit.proofs.Source001.{options-in-order, down-options-are}

@@ -48,7 +48,7 @@ module _ (c : Circuit) where
   keeps-turn [] s u k = k
   keeps-turn (x ∷ o) s u k = keeps-turn o (set s x (byte (not (on s x)))) (λ y m. u y (there m)) (keeps-set s x (not (on s x)) (u x (here refl)) k)
 
-turn-out : (o s : List ℕ) (x : ℕ) → ¬ In x o → getD (turn o s) x 0 ≡ getD s x 0
+pub turn-out : (o s : List ℕ) (x : ℕ) → ¬ In x o → getD (turn o s) x 0 ≡ getD s x 0
 turn-out [] s x n = refl
 turn-out (y ∷ o) s x n = turn-out o (set s y (byte (not (on s y)))) x (λ m. n (there m)) ∙ getD-set-other s y x (byte (not (on s y))) 0 (λ e. n (here e))
 

@@ -14,7 +14,8 @@ use Rattle.circuit.specs.Gate.{Input, Not, And, Or, Xor}
 use Rattle.circuit.specs.Circuit.{Circuit, WellFormed}
 use Rattle.circuit.specs.Evaluate.{rowOf, evaluate, mark, KeepsCodes, differ}
 use Rattle.circuit.specs.Survey.{survey, frontSize, interestSize}
-use Rattle.circuit.specs.Run.{Entry, downOptions, turn, turned, move, stop, run, answer}
+use Rattle.circuit.specs.declared.Entry.{Entry}
+use Rattle.circuit.specs.Run.{downOptions, turn, turned, move, stop, run, answer}
 
 -- ---- circuits
 

@@ -14,7 +14,8 @@ use Rattle.circuit.specs.Gate.{isInput}
 use Rattle.circuit.specs.Circuit.{Circuit, coded, WellFormed, Configuration, on}
 use Rattle.circuit.specs.Evaluate.{Obeys, Satisfying, Satisfiable, KeepsCodes, differ}
 use Rattle.circuit.specs.Survey.{front, frontSize, interestSize}
-use Rattle.circuit.specs.Run.{Entry, downOptions, turn, greedyOptions, turned, move, Ended, run, answer}
+use Rattle.circuit.specs.declared.Entry.{Entry}
+use Rattle.circuit.specs.Run.{downOptions, turn, greedyOptions, turned, move, Ended, run, answer}
 use Rattle.circuit.specs.Source001.{OptionOf, Cone, Front, Turned, Size, OptionsInOrder, DownOptionsAre001, SurveyIs001}
 
 abbrev pub NoFront : Circuit → List ℕ → Type 0

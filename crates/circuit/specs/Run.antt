@@ -7,6 +7,7 @@ use lib.Dec.{leb}
 use Rattle.folds.specs.Folds.{_and_}
 use Rattle.circuit.specs.declared.Choice.{Choice}
 use Rattle.circuit.specs.declared.Choice.the-variants.{Greedy, Down, Up}
+use Rattle.circuit.specs.declared.Entry.{Entry}
 use Rattle.circuit.specs.declared.Ending.{Ending}
 use Rattle.circuit.specs.declared.Ending.the-variants.{Found, Spent}
 use Rattle.circuit.specs.declared.Outcome.{Outcome}
@@ -18,10 +19,7 @@ use Rattle.circuit.specs.Survey.{cone, front, frontSize, interestSize}
 
 -- ---- Options and moves
 
--- "A tape entry is 4 bytes: draw (u16), kind (0 greedy, 1 down, 2 up), option."
-pub record Entry : Type 0 where
-  pub draw : ℕ
-  pub choice : Choice
+-- "A tape entry is 4 bytes: draw (u16), kind (0 greedy, 1 down, 2 up), option.": `Entry` has its draw and its choice, which is kind and option.
 
 -- "The front is listed by rising gate number; the gate drawn stands at place draw modulo front size, counted from 0."
 unfoldable pub drawn : Circuit → List ℕ → ℕ → ℕ

@@ -7,6 +7,12 @@ pub enum Choice {
     Up(u8),
 }
 
+// A tape entry.
+pub struct Entry {
+    pub draw: u16,
+    pub choice: Choice,
+}
+
 // How a run ends: Spent with the front's size, Refused with the number of the test that failed.
 pub enum Ending {
     Found,

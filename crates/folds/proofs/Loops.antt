@@ -6,7 +6,7 @@ use mathlib.Core.Logic.{inl, inr}
 use native.Mathlib.Nat.{le-of-suc-le-suc, eq-or-lt-of-le}
 use native.Mathlib.Numerals.{add-one}
 use native.Mathlib.Omega.{arith}
-use Rattle.folds.specs.Folds.{allBelow, ascend, descend}
+use Rattle.folds.specs.Folds.{allBelow}
 use Rattle.folds.proofs.Tests.{and-left, and-right, and-both, and-first-false, and-second-false, flags}
 
 -- ---- a test of every number below n
@@ -59,24 +59,3 @@ all-done-of n f i p e a l r = rw (← e) (all-done f i p a l r)
 pub ruleset loops = (all-none, all-more, fails-at, all-done, flags)
 
 pub ruleset loops-of = (all-none, all-more, fails-at-of, all-done-of, flags)
-
--- ---- a state carried up or down
-
-module _ {S : Type 0} (f : ℕ → S → S) where
-  pub ascend-none : (s : S) → ascend 0 f s ≡ s
-  unfolding ascend
-  ascend-none s = refl
-
-  pub ascend-more : (n : ℕ) (s : S) → ascend (n + 1) f s ≡ f n (ascend n f s)
-  unfolding ascend
-  ascend-more n s = rw add-one
-
-  pub descend-none : (s : S) → descend 0 f s ≡ s
-  unfolding descend
-  descend-none s = refl
-
-  -- n at the head of a loop that counts down, and n - 1 in its turn
-  pub descend-less : (n : ℕ) (s : S) → 0 < n → descend (n - 1) f (f (n - 1) s) ≡ descend n f s
-  unfolding descend
-  descend-less zero s l = absurd (omega arith)
-  descend-less (suc n) s l = let e : suc n - 1 ≡ n = omega arith in rw e

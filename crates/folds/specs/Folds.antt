@@ -1,4 +1,4 @@
--- Definitions that mirror a loop: a test of every number below n, a state carried up from 0 to n - 1, and one carried down from n - 1 to 0.
+-- Definitions that mirror a loop: a test of every number below n, and a state carried down from n - 1 to 0.
 -- Assumes nothing.
 use Prim.Native.Nat.{ℕ, zero, suc}
 use mathlib.Core.Bool.{Bool, true, false}
@@ -20,11 +20,6 @@ allBelow zero p = true
 allBelow (suc n) p = allBelow n p and p n
 
 module _ {S : Type 0} where
-  -- s after f at 0, then at 1, up to n - 1
-  unfoldable pub ascend : ℕ → (ℕ → S → S) → S → S
-  ascend zero f s = s
-  ascend (suc n) f s = f n (ascend n f s)
-
   -- s after f at n - 1, then at n - 2, down to 0
   unfoldable pub descend : ℕ → (ℕ → S → S) → S → S
   descend zero f s = s

@@ -2,7 +2,7 @@
 use Prim.Native.Nat.{ℕ, zero, suc, _+_, _*_, _-_, _<_, _≤_}
 use mathlib.Core.Path.{_≡_, refl, sym, _∙_}
 use mathlib.Core.Bool.{Bool, true, false, not}
-use mathlib.Core.Logic.{inl, inr}
+use mathlib.Core.Logic.{_⊎_, inl, inr}
 use mathlib.Core.List.{List, [], _∷_, _++_}
 use native.Mathlib.Nat.{le-of-suc-le-suc, eq-or-lt-of-le}
 use native.Mathlib.Numerals.{add-one}
@@ -15,7 +15,7 @@ use Rattle.folds.specs.Folds.{_and_, _or_, allBelow}
 use Rattle.folds.proofs.Tests.{which, and-left, and-right}
 use Rattle.folds.proofs.Loops.{all-at}
 use Rattle.circuit.specs.Tools.{byte}
-use Rattle.circuit.specs.Gate.{isInput, kindOf}
+use Rattle.circuit.specs.Gate.{Not, Xor, isInput, kindOf}
 use Rattle.circuit.specs.Circuit.{coded}
 use Rattle.circuit.specs.Evaluate.{inputsBefore}
 use Rattle.circuit.proofs.Lists.{place-more}
@@ -92,6 +92,14 @@ gate-kind (suc zero) h = refl
 gate-kind (suc (suc zero)) h = refl
 gate-kind (suc (suc (suc zero))) h = refl
 gate-kind (suc (suc (suc (suc k)))) h = refl
+
+-- the kinds that code has no case for
+pub not-or-xor : (k : ℕ) → (k ≡ 0 → ⊥) → (k ≡ 2 → ⊥) → (k ≡ 3 → ⊥) → (kindOf k ≡ Not) ⊎ (kindOf k ≡ Xor)
+not-or-xor zero a b d = absurd (a refl)
+not-or-xor (suc zero) a b d = inl refl
+not-or-xor (suc (suc zero)) a b d = absurd (b refl)
+not-or-xor (suc (suc (suc zero))) a b d = absurd (d refl)
+not-or-xor (suc (suc (suc (suc k)))) a b d = inr refl
 
 pub inputs-none : (m : List ℕ) → 0 ≡ inputsBefore (circuit m) 0
 unfolding inputsBefore

@@ -4,4 +4,5 @@ pub mod Parts
 pub mod Answers
 pub mod Codes
 pub mod Count
+pub mod Options
 pub mod Bench

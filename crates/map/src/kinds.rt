@@ -4,7 +4,7 @@ ghost use Prim.Native.Nat.{_≤_};
 ghost use Rattle.circuit.specs.Tools.{byte};
 ghost use Rattle.circuit.specs.Gate.{kindOf, isInput, relevant};
 ghost use Rattle.map.specs.Check.{kindFits};
-ghost use Rattle.map.specs.Kinds.{GivesBy};
+ghost use Rattle.map.specs.Kinds.{GivesBy, optionCount, optionTurns};
 
 // 1 for an input's kind byte, else 0.
 pub fn input_bit(kind: u8) -> usize
@@ -54,5 +54,29 @@ pub fn relevant(kind: u8, v: bool, x: bool) -> bool
         2 => if v { true } else { !x },
         3 => if v { x } else { true },
         _ => true,
+    }
+}
+
+// How many options a gate of this kind with value v and `fan` children has.
+pub fn options(kind: u8, v: bool, fan: usize) -> usize
+    ensures { λ r. ⌜ r ≡ optionCount (kindOf kind) v fan ⌝ }
+{
+    match kind {
+        0 => 0,
+        2 => if v { 1 } else { fan },
+        3 => if v { fan } else { 1 },
+        _ => fan,
+    }
+}
+
+// Does option i turn child j, whose value is x?
+pub fn turns(kind: u8, v: bool, i: usize, j: usize, x: bool) -> bool
+    ensures { λ r. ⌜ r ≡ optionTurns (kindOf kind) v i j x ⌝ }
+{
+    match kind {
+        0 => false,
+        2 => if v { !x } else { i == j },
+        3 => if v { i == j } else { x },
+        _ => i == j,
     }
 }

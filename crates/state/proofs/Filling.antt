@@ -39,7 +39,7 @@ pub filled-none : (c : Circuit) (row out : List ℕ) → out ≡ filled c row ou
 unfolding filled values
 filled-none c row out = refl
 
-store : (vs out : List ℕ) (n v : ℕ) → length vs ≡ n → n < length out → set (vs ++ drop n out) n v ≡ (vs ++ (v ∷ [])) ++ drop (suc n) out
+pub store : (vs out : List ℕ) (n v : ℕ) → length vs ≡ n → n < length out → set (vs ++ drop n out) n v ≡ (vs ++ (v ∷ [])) ++ drop (suc n) out
 store vs out n v e l = rw (drop-cons out n 0 l, set-at vs (getD out n 0) (drop (suc n) out) v n e, append-assoc)
 
 -- a gate's children stand before it, so that what lies beyond counts for nothing

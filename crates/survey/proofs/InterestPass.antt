@@ -9,12 +9,13 @@ use lib.ListN.{length, getD, set}
 use lib.Dec.{leb, ltb}
 use borrow.Author.Tests.{le-ltb}
 use Rattle.folds.specs.Folds.{_and_}
-use Rattle.folds.proofs.Tests.{which, and-left}
+use Rattle.folds.proofs.Tests.{which}
 use Rattle.circuit.specs.Tools.{byte, upTo}
 use Rattle.circuit.specs.Circuit.{Circuit, WellFormed}
 use Rattle.circuit.specs.Survey.{cone, inFront, interest, survey, interestSize}
 use Rattle.circuit.proofs.Lists.{map-at, in-upTo, select-same}
 use Rattle.circuit.proofs.Spread.{spread-start}
+use Rattle.circuit.proofs.Cone.{front-cone}
 use Rattle.survey.specs.Marks.{coneMarks, paint, markBelow, markItself, interestTurn, interestCount}
 use Rattle.survey.proofs.Tables.{same-tables, length-table}
 use Rattle.survey.proofs.Pass.{From, begins, ends, mark-is, passes, turns}
@@ -112,10 +113,6 @@ module _ (c : Circuit) (s : List ℕ) where
   unfolding survey
   interest-ends w k = ends _ _ _ _ _ w k
 
-  front-cone : (g : ℕ) → inFront c s g ≡ true → cone c s g ≡ true
-  unfolding inFront
-  front-cone g e = and-left _ _ e
-
   front-interest : (g : ℕ) → inFront c s g ≡ true → interest c s g ≡ true
   unfolding interest
   front-interest g e = spread-start (c .kids) (c .gates) (inFront c s) g e
@@ -126,15 +123,15 @@ module _ (c : Circuit) (s : List ℕ) where
     marked = mark-is (c .gates) (c .kids) (inFront c s) lateMark earlyMark (ok .below) g h w k
 
     high : leb 2 (getD w g 0) ≡ interest c s g
-    high = rw marked (early-high (cone c s g) (inFront c s g) (interest c s g) (front-cone g) (front-interest g))
+    high = rw marked (early-high (cone c s g) (inFront c s g) (interest c s g) (front-cone c s g) (front-interest g))
 
     turned : interest c s g ≡ true → InterestFrom g (paint markBelow (c .kids g) (set w g (lateMark g)))
     unfolding interest
     turned q = turns (c .gates) (c .kids) (inFront c s) lateMark earlyMark (ok .below) g h w k markBelow below-twice
-        (λ x b. early-below (cone c s x) (inFront c s x) b (front-cone x)) q
+        (λ x b. early-below (cone c s x) (inFront c s x) b (front-cone c s x)) q
 
     late-in : interest c s g ≡ true → markItself (getD w g 0) ≡ lateMark g
-    late-in q = rw (marked, q) (early-itself (cone c s g) (inFront c s g) (front-cone g))
+    late-in q = rw (marked, q) (early-itself (cone c s g) (inFront c s g) (front-cone c s g))
 
     turn-in : interest c s g ≡ true → InterestFrom g (paint markBelow (c .kids g) (set w g (markItself (getD w g 0))))
     turn-in q = rw (late-in q) (turned q)
@@ -162,4 +159,4 @@ module _ (c : Circuit) (s : List ℕ) where
   unfolding interestCount interestSize survey
   interest-count w e = rw (e, length-table lateMark (c .gates))
       (ap length (select-same (λ g. leb 4 (getD (map lateMark (upTo (c .gates))) g 0)) (interest c s) (upTo (c .gates)) (λ g m.
-      rw (map-at lateMark (c .gates) g 0 (in-upTo g (c .gates) m)) (mark-high (cone c s g) (inFront c s g) (interest c s g) (front-cone g)))))
+      rw (map-at lateMark (c .gates) g 0 (in-upTo g (c .gates) m)) (mark-high (cone c s g) (inFront c s g) (interest c s g) (front-cone c s g)))))

@@ -2,7 +2,7 @@
 pub mod cone;
 pub mod interest;
 pub mod start;
-mod writing;
+pub mod writing;
 
 use map::Checked;
 ghost use mathlib.Core.Path.{_≡_};

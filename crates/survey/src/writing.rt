@@ -13,7 +13,7 @@ ghost use Rattle.map.specs.Check.{IsMap};
 ghost use Rattle.survey.specs.Survey.{reports, configurationSurveying};
 
 // Writes the survey of s into marks. Returns its sizes.
-fn write(
+pub fn write(
     map: &[u8],
     gates: usize,
     children: usize,

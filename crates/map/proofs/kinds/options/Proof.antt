@@ -1,0 +1,14 @@
+use mathlib.Core.Logic.{inl, inr}
+use borrow.Author.Needs.{needs}
+use Rattle.map.proofs.Laws.{not-or-xor}
+use Rattle.map.proofs.kinds.options.Statement.{statement}
+use Rattle.map.proofs.kinds.options.Tie as tie
+use Rattle.map.proofs.kinds.options.Reads as reads
+use Rattle.map.proofs.kinds.options.Lts as lts
+
+returns-6 : tie.Need-returns-6
+returns-6 c = elim (not-or-xor (c .before .args .kind) (search needs) (search needs) (search needs)) [ inl e ↦ rw e | inr e ↦ rw e ]
+
+pub options-spec : {M : Type 1} → statement M
+options-spec =
+    tie.close (tie.spec (λ c. search needs) (λ c. search needs) (λ c. search needs) (λ c. search needs) (λ c. search needs) returns-6)

@@ -1,0 +1,19 @@
+use mathlib.Core.Logic.{inl, inr}
+use borrow.Author.Needs.{needs}
+use Rattle.map.proofs.Laws.{not-or-xor}
+use Rattle.map.proofs.kinds.turns.Statement.{statement}
+use Rattle.map.proofs.kinds.turns.Tie as tie
+use Rattle.map.proofs.kinds.turns.Reads as reads
+use Rattle.map.proofs.kinds.turns.Lts as lts
+
+returns-3 : tie.Need-returns-3
+returns-3 c = rw (c .before .match .keys2, c .if1 .left)
+
+returns-4 : tie.Need-returns-4
+returns-4 c = rw (c .before .match .keys3, c .if2 .taken)
+
+returns-6 : tie.Need-returns-6
+returns-6 c = elim (not-or-xor (c .before .args .kind) (search needs) (search needs) (search needs)) [ inl e ↦ rw e | inr e ↦ rw e ]
+
+pub turns-spec : {M : Type 1} → statement M
+turns-spec = tie.close (tie.spec (λ c. search needs) (λ c. search needs) returns-3 returns-4 (λ c. search needs) returns-6)

@@ -1,0 +1,6 @@
+pub mod Places
+pub mod Flips
+pub mod Best
+pub mod Choices
+pub mod Fronts
+pub mod Answers

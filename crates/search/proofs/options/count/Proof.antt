@@ -1,0 +1,18 @@
+use Rattle.search.specs.Options.{optionsOf}
+use borrow.Author.Needs.{needs}
+use Rattle.search.proofs.options.count.Statement.{statement}
+use Rattle.search.proofs.options.count.Tie as tie
+use Rattle.search.proofs.options.count.Reads as reads
+use Rattle.search.proofs.options.count.Lts as lts
+use Rattle.map.proofs.decode.fan_in.Reads as fan-in-reads
+use Rattle.map.proofs.decode.kind.Reads as kind-reads
+use Rattle.map.proofs.kinds.options.Reads as options-reads
+
+returns : tie.Need-returns
+unfolding optionsOf
+returns c = rw (← c .before .before .fan-in .ensures .0, ← c .before .before .before .kind .ensures) (c .options .ensures)
+
+pub count-spec : {M : Type 1} → statement M
+count-spec =
+    tie.close
+    (tie.spec (λ c κs. search needs) (λ c κs. search needs) (λ c. search needs) (λ c κs. search needs) returns)

@@ -1,0 +1,25 @@
+use Rattle.search.specs.Tape.{entryAt}
+use borrow.Author.Needs.{needs}
+use Rattle.search.proofs.tape.entry_at.Statement.{statement}
+use Rattle.search.proofs.tape.entry_at.Tie as tie
+use Rattle.search.proofs.tape.entry_at.Reads as reads
+use Rattle.search.proofs.tape.entry_at.Lts as lts
+use Rattle.map.proofs.decode.word.Reads as word-reads
+use Rattle.search.proofs.tape.choice_of.Reads as choice-of-reads
+
+returns : tie.Need-returns
+unfolding entryAt
+returns c = rw (c .before .before .before .word .ensures .0, c .choice-of .ensures)
+
+pub entry-at-spec : {M : Type 1} → statement M
+entry-at-spec =
+    tie.close
+    (tie.spec
+    (λ c κs. search needs)
+    (λ c. search needs)
+    (λ c. search needs)
+    (λ c. search needs)
+    (λ c. search needs)
+    (λ c. search needs)
+    (λ c κs. search needs)
+    returns)

@@ -1,0 +1,3 @@
+pub mod Tape
+pub mod Options
+pub mod Move

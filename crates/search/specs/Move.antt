@@ -1,0 +1,76 @@
+-- Document 01's Move, on bytes. Assumes nothing.
+use Prim.Native.Nat.{ℕ}
+use mathlib.Core.Bool.{Bool, true, false, cond, not}
+use mathlib.Core.List.{List, [], _∷_, _++_}
+use lib.ListN.{length}
+use lib.Dec.{eqb, leb}
+use Rattle.circuit.specs.Tools.{isEmpty}
+use Rattle.circuit.specs.Survey.{front, survey}
+use Rattle.circuit.specs.Run.{move}
+use Rattle.map.specs.Map.{gateCount, circuit}
+use Rattle.map.specs.Check.{firstFailed, mapTests}
+use Rattle.state.specs.State.{over}
+use Rattle.survey.specs.Survey.{startTests}
+use Rattle.search.specs.declared.Moved.{Moved}
+use Rattle.search.specs.declared.Moved.the-variants.{Done, Refused}
+use Rattle.search.specs.Tape.{entryAt, kindsTest}
+
+-- ---- the tests
+
+-- "15. For Move: the front is empty.": true where it is not
+unfoldable pub frontTest : List ℕ → List ℕ → Bool
+frontTest m s = not (isEmpty (front (circuit m) s))
+
+-- 12 for Move: "The tape's length isn't a multiple of 4, is above 65,532 or, for Move, isn't 4."; 13; and "14. .. work .. memory is shorter than the
+-- gate count."
+unfoldable pub entryTests : List ℕ → List ℕ → List ℕ → List (ℕ × Bool)
+entryTests m entry work = (12, eqb (length entry) 4) ∷ (13, kindsTest entry) ∷ (14, leb (gateCount m) (length work)) ∷ []
+
+-- Move's tests behind the map's: 9 to 11, these, and 15
+unfoldable pub moveTests : List ℕ → List ℕ → List ℕ → List ℕ → List (ℕ × Bool)
+moveTests m s entry work = startTests m s ++ (entryTests m entry work ++ ((15, frontTest m s) ∷ []))
+
+-- ---- Move
+
+-- Move's answer, whether the call is accepted and else its number, "the drawn gate and how many values it turned", and the two lent memories after
+-- the call
+pub record Moving : Type 0 where
+  pub accepted : Bool
+  pub number : ℕ
+  pub gate : ℕ
+  pub turned : ℕ
+  pub configuration : List ℕ
+  pub work : List ℕ
+
+-- document 01's number and values of each case of the answer, beside the memories
+unfoldable pub did : Moved → List ℕ → List ℕ → Moving
+did (Done t) s w = record { accepted = true; number = 0; gate = t .gate; turned = t .turned; configuration = s; work = w }
+did (Refused n) s w = record { accepted = false; number = n; gate = 0; turned = 0; configuration = s; work = w }
+
+-- what a call with this number gives and leaves: "Move does one entry and returns the drawn gate and how many values it turned (1 to 8). The lent
+-- configuration is then the new one, and the first bytes of the work memory, one per gate, are its survey."; declined, it "leaves all lent memory
+-- untouched; the other numbers of its answer .. are then 0"
+unfoldable pub movingBy : ℕ → List ℕ → List ℕ → List ℕ → List ℕ → Moving
+movingBy n m s entry work =
+    cond (eqb n 0)
+    (record {
+      accepted = true;
+      number = 0;
+      gate = move (circuit m) s (entryAt entry 0) .gate;
+      turned = move (circuit m) s (entryAt entry 0) .flips;
+      configuration = move (circuit m) s (entryAt entry 0) .next;
+      work = over (survey (circuit m) (move (circuit m) s (entryAt entry 0) .next)) work;
+    })
+    (record { accepted = false; number = n; gate = 0; turned = 0; configuration = s; work = work })
+
+unfoldable pub moving : List ℕ → List ℕ → List ℕ → List ℕ → Moving
+moving m s entry work = movingBy (firstFailed (mapTests m ++ moveTests m s entry work)) m s entry work
+
+-- ---- for inner functions
+
+-- Move behind the map's tests, and behind all but 15
+unfoldable pub configurationMoving : List ℕ → List ℕ → List ℕ → List ℕ → Moving
+configurationMoving m s entry work = movingBy (firstFailed (moveTests m s entry work)) m s entry work
+
+unfoldable pub entryMoving : List ℕ → List ℕ → List ℕ → List ℕ → Moving
+entryMoving m s entry work = movingBy (firstFailed ((15, frontTest m s) ∷ [])) m s entry work

@@ -1,0 +1,45 @@
+-- Document 01's tape, and the tests 12 and 13. Assumes nothing.
+use Prim.Native.Nat.{ℕ, zero, suc, _+_, _*_, _/_, _%_}
+use mathlib.Core.Bool.{Bool, cond}
+use mathlib.Core.List.{List, [], _∷_}
+use lib.ListN.{length, getD}
+use lib.Dec.{eqb, leb}
+use Rattle.folds.specs.Folds.{_and_, allBelow}
+use Rattle.circuit.specs.declared.Choice.{Choice}
+use Rattle.circuit.specs.declared.Choice.the-variants.{Greedy, Down, Up}
+use Rattle.circuit.specs.declared.Entry.{Entry}
+use Rattle.map.specs.Map.{u16At}
+use Rattle.search.specs.declared.tape.Step.{Step}
+use Rattle.search.specs.declared.tape.Step.the-variants.{Next, End}
+
+-- "kind (0 greedy, 1 down, 2 up), option". Kinds above 2 have no choice: test 13 excludes them, and the last clause stands for them.
+abbrev pub choiceOf : ℕ → ℕ → Choice
+choiceOf zero i = Greedy i
+choiceOf (suc zero) i = Down i
+choiceOf (suc (suc k)) i = Up i
+
+-- "A tape entry is 4 bytes: draw (u16), kind (0 greedy, 1 down, 2 up), option.": the entry at a place
+unfoldable pub entryAt : List ℕ → ℕ → Entry
+entryAt t at = record { draw = u16At t at; choice = choiceOf (getD t (at + 2) 0) (getD t (at + 3) 0) }
+
+-- "A tape goes through the engine entry by entry, the place reached moving on by four.": n entries from a place on, and all
+unfoldable pub entriesFrom : List ℕ → ℕ → ℕ → List Entry
+entriesFrom t at zero = []
+entriesFrom t at (suc n) = entryAt t at ∷ entriesFrom t (at + 4) n
+
+unfoldable pub entries : List ℕ → List Entry
+entries t = entriesFrom t 0 (length t / 4)
+
+-- "12. The tape's length isn't a multiple of 4, is above 65,532": true where neither is so
+unfoldable pub tapeTest : List ℕ → Bool
+tapeTest t = eqb (length t % 4) 0 and leb (length t) 65532
+
+-- "13. An entry, even one never reached, has a kind above 2.": true where none has
+unfoldable pub kindsTest : List ℕ → Bool
+kindsTest t = allBelow (length t / 4) (λ i. leb (getD t (4 * i + 2) 0) 2)
+
+-- ---- for inner functions
+
+-- the entry at a place with the place four on, or the end where fewer than four bytes are left
+unfoldable pub stepAt : List ℕ → ℕ → Step
+stepAt t at = cond (leb (at + 4) (length t)) (Next (entryAt t at) (record { at = at + 4 })) End

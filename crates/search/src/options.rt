@@ -1,0 +1,73 @@
+// Turning the gates of an option.
+use map::decode;
+use map::kinds;
+ghost use mathlib.Core.Path.{_≡_};
+ghost use mathlib.Core.List.{[], _∷_};
+ghost use mathlib.Core.Bool.{not, cond};
+ghost use Prim.Native.Nat.{_+_, _<_, _≤_};
+ghost use lib.ListN.{length};
+ghost use lib.Dec.{eqb};
+ghost use Rattle.circuit.specs.Tools.{byte};
+ghost use Rattle.circuit.specs.Gate.{kindOf};
+ghost use Rattle.circuit.specs.Circuit.{on};
+ghost use Rattle.circuit.specs.Run.{turn};
+ghost use Rattle.map.specs.Map.{gateCount, fanIn};
+ghost use Rattle.map.specs.Kinds.{optionTurns};
+ghost use Rattle.map.specs.Check.{IsMap};
+ghost use Rattle.search.specs.Options.{optionsOf, optionGates};
+
+// The other value.
+fn other(b: u8) -> u8
+    ensures { λ r. ⌜ (r ≡ byte (not (eqb b 1))) × (r ≤ 1) ⌝ }
+{
+    if b == 1 { 0 } else { 1 }
+}
+
+// Turns gate x.
+pub fn flip(s: &mut [u8], x: usize)
+    requires { ⌜ x < length (now s) ⌝ }
+    ensures { λ _. ⌜ now (s .exit) ≡ turn (x ∷ []) (now (s .entry)) ⌝ }
+{
+    s[x] = other(s[x]);
+}
+
+// Turns child j of a gate of this kind and value, which is gate x, if option i does. Returns 1 if so, else 0.
+fn flip_child(kind: u8, v: bool, i: usize, j: usize, x: usize, s: &mut [u8]) -> u32
+    requires { ⌜ x < length (now s) ⌝ }
+    ensures { λ r. ⌜ (now (s .exit) ≡ cond (optionTurns (kindOf kind) v i j (on (now (s .entry)) x)) (turn (x ∷ []) (now (s .entry))) (now (s .entry))) × ((r ≡ byte (optionTurns (kindOf kind) v i j (on (now (s .entry)) x))) × (r ≤ 1)) ⌝ }
+{
+    if kinds::turns(kind, v, i, j, s[x] == 1) {
+        flip(s, x);
+        return 1;
+    }
+    0
+}
+
+// How many options gate g has.
+pub fn count(map: &[u8], gates: usize, g: usize, s: &[u8]) -> usize
+    requires { ⌜ IsMap (now map) × ((gates ≡ gateCount (now map)) × ((g < gates) × (gates ≤ length (now s)))) ⌝ }
+    ensures { λ r. ⌜ r ≡ optionsOf (now (map .entry)) (now (s .entry)) g ⌝ }
+{
+    let kind = decode::kind(map, gates, g);
+    let fan = decode::fan_in(map, gates, g);
+    kinds::options(kind, s[g] == 1, fan)
+}
+
+// Turns the gates of option i of gate g. Returns how many.
+pub fn flip_option(map: &[u8], gates: usize, g: usize, i: usize, s: &mut [u8]) -> u32
+    requires { ⌜ IsMap (now map) × ((gates ≡ gateCount (now map)) × ((g < gates) × (gates ≤ length (now s)))) ⌝ }
+    ensures { λ r. ⌜ (now (s .exit) ≡ turn (optionGates (now (map .entry)) (now (s .entry)) g i) (now (s .entry))) × (r ≡ length (optionGates (now (map .entry)) (now (s .entry)) g i)) ⌝ }
+{
+    let kind = decode::kind(map, gates, g);
+    let v = s[g] == 1;
+    let fan = decode::fan_in(map, gates, g);
+    let first = decode::first_child(map, gates, g);
+    let mut turned = 0;
+    let mut j = 0;
+    while j < fan {
+        let x = decode::child_from(map, gates, first, j);
+        turned += flip_child(kind, v, i, j, x, s);
+        j += 1;
+    }
+    turned
+}
