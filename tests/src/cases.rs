@@ -1,14 +1,16 @@
 //! Test cases: the frame they are written in (FORMAT.md), a fixed list with
 //! expected lines written by hand, and random cases from a seed.
 
-use crate::engine::{self, AND, INPUT, NOT, OR, XOR};
+use crate::engine::{self, AND, DOWN, GREEDY, INPUT, NOT, OR, UP, XOR};
 
-/// "A case file has at most 262,144 bytes."
-pub const FILE_LIMIT: usize = 262_144;
+/// "A case file has at most 524,288 bytes."
+pub const FILE_LIMIT: usize = 524_288;
+/// Files of random cases stay smaller.
+pub const RANDOM_LIMIT: usize = 262_144;
 /// "room is at most 2,048."
 pub const ROOM_LIMIT: usize = 2_048;
-/// "The output memory of 'e' and 's' is `room` bytes, each 170 (0xAA) before
-/// the call."
+/// "The memory of 'e', 's' and 'v' is `room` bytes, each 170 (0xAA) before the
+/// call."
 pub const PATTERN: u8 = 170;
 
 /// One framed case.
@@ -18,6 +20,8 @@ pub struct Case {
     pub map: Vec<u8>,
     pub body: Vec<u8>,
     pub room: usize,
+    /// The lent entry of a move, of any length; nothing for the other ops.
+    pub tape: Vec<u8>,
 }
 
 /// A case of the fixed list with its name and its line, written by hand.
@@ -36,6 +40,15 @@ fn push16(bytes: &mut Vec<u8>, number: usize) {
     bytes.push((number / 256) as u8);
 }
 
+/// The bytes before the map: "tape u32: length of the tape, for op 'v' alone".
+fn head(op: u8) -> usize {
+    if op == b'v' {
+        11
+    } else {
+        7
+    }
+}
+
 impl Case {
     /// The bytes of the case in a case file.
     pub fn framed(&self) -> Vec<u8> {
@@ -43,13 +56,18 @@ impl Case {
         push16(&mut bytes, self.map.len());
         push16(&mut bytes, self.body.len());
         push16(&mut bytes, self.room);
+        if self.op == b'v' {
+            push16(&mut bytes, self.tape.len() % 65_536);
+            push16(&mut bytes, self.tape.len() / 65_536);
+        }
         bytes.extend_from_slice(&self.map);
         bytes.extend_from_slice(&self.body);
+        bytes.extend_from_slice(&self.tape);
         bytes
     }
 
     pub fn size(&self) -> usize {
-        7 + self.map.len() + self.body.len()
+        head(self.op) + self.map.len() + self.body.len() + self.tape.len()
     }
 }
 
@@ -73,26 +91,33 @@ pub fn parse(bytes: &[u8]) -> Result<Vec<Case>, String> {
     while bytes.len() - at >= 7 {
         let number = |place: usize| bytes[at + place] as usize + 256 * bytes[at + place + 1] as usize;
         let op = bytes[at];
-        let map_length = number(1);
-        let body_length = number(3);
-        let room = number(5);
-        if bytes.len() - at < 7 + map_length + body_length {
+        if bytes.len() - at < head(op) {
             break;
         }
-        let map = bytes[at + 7..at + 7 + map_length].to_vec();
-        let body = bytes[at + 7 + map_length..at + 7 + map_length + body_length].to_vec();
-        at += 7 + map_length + body_length;
+        let room = number(5);
+        let tape_length = if op == b'v' { number(7) + 65_536 * number(9) } else { 0 };
+        let map_at = at + head(op);
+        let body_at = map_at + number(1);
+        let tape_at = body_at + number(3);
+        let end = tape_at + tape_length;
+        if bytes.len() < end {
+            break;
+        }
+        let map = bytes[map_at..body_at].to_vec();
+        let body = bytes[body_at..tape_at].to_vec();
+        let tape = bytes[tape_at..end].to_vec();
+        at = end;
         let shape = match op {
             b'c' => body.is_empty() && room == 0,
             b'k' => body.len() == 2 && room == 0,
-            b'e' | b's' => room <= ROOM_LIMIT,
+            b'e' | b's' | b'v' => room <= ROOM_LIMIT,
             b'm' => room == 0,
             _ => false,
         };
         if !shape {
             return Err(format!("case {} isn't of the format", cases.len()));
         }
-        cases.push(Case { op, map, body, room });
+        cases.push(Case { op, map, body, room, tape });
     }
     Ok(cases)
 }
@@ -106,6 +131,15 @@ fn with_memory(word: String, memory: &[u8]) -> String {
         line.push_str(&format!("{byte:02x}"));
     }
     line
+}
+
+/// "conf is the configuration after the call, `-` where it is empty": in
+/// hexadecimal like the memory, since a declined one may have any bytes.
+fn with_configuration(word: String, configuration: &[u8]) -> String {
+    if configuration.is_empty() {
+        return word + " -";
+    }
+    with_memory(word, configuration)
 }
 
 /// The line that the independent engine gives for a case, without line feed.
@@ -141,6 +175,15 @@ pub fn answer(case: &Case) -> String {
                 Ok((front, interest)) => with_memory(format!("SIZES {front} {interest}"), &memory),
                 Err(number) => with_memory(format!("REFUSED {number}"), &memory),
             }
+        }
+        b'v' => {
+            let mut configuration = case.body.clone();
+            let mut memory = vec![PATTERN; case.room];
+            let word = match engine::make_move(&case.map, &mut configuration, &case.tape, &mut memory) {
+                Ok((gate, turned)) => format!("MOVED {gate} {turned}"),
+                Err(number) => format!("REFUSED {number}"),
+            };
+            with_memory(with_configuration(word, &configuration), &memory)
         }
         other => panic!("no such op: {other}"),
     }
@@ -255,6 +298,46 @@ fn declined(number: u8, room: usize) -> String {
     }
 }
 
+/// Entries with draw 0.
+fn greedy(option: u8) -> [u8; 4] {
+    [0, 0, GREEDY, option]
+}
+
+fn down(option: u8) -> [u8; 4] {
+    [0, 0, DOWN, option]
+}
+
+fn up(option: u8) -> [u8; 4] {
+    [0, 0, UP, option]
+}
+
+/// The entry with another draw.
+fn drawn(draw: u16, entry: [u8; 4]) -> [u8; 4] {
+    [(draw % 256) as u8, (draw / 256) as u8, entry[2], entry[3]]
+}
+
+/// The expected line of an accepted move: gate drawn and values turned, then
+/// the new configuration and its survey as digits.
+fn moved((gate, turned): (usize, usize), after: &str, bytes: &str, surplus: usize) -> String {
+    format!("MOVED {gate} {turned} {} {}", memory(after, 0), memory(bytes, surplus))
+}
+
+/// The expected line of a declined move: configuration and memory are untouched.
+fn unmoved(number: u8, configuration: &[u8], room: usize) -> String {
+    let mut line = format!("REFUSED {number} ");
+    if configuration.is_empty() {
+        line.push('-');
+    }
+    for byte in configuration {
+        line.push_str(&format!("{byte:02x}"));
+    }
+    if room > 0 {
+        line.push(' ');
+    }
+    line.push_str(&"aa".repeat(room));
+    line
+}
+
 struct List(Vec<Named>);
 
 impl List {
@@ -267,29 +350,29 @@ impl List {
     }
 
     fn check(&mut self, name: &str, map: &[u8], expected: &str) {
-        let case = Case { op: b'c', map: map.to_vec(), body: vec![], room: 0 };
+        let case = Case { op: b'c', map: map.to_vec(), body: vec![], room: 0, tape: vec![] };
         self.add(&format!("check {name}"), case, expected);
     }
 
     fn children(&mut self, name: &str, map: &[u8], gate: u16, expected: &str) {
         let body = vec![(gate % 256) as u8, (gate / 256) as u8];
-        let case = Case { op: b'k', map: map.to_vec(), body, room: 0 };
+        let case = Case { op: b'k', map: map.to_vec(), body, room: 0, tape: vec![] };
         self.add(&format!("children {name}"), case, expected);
     }
 
     fn evaluate(&mut self, name: &str, map: &[u8], row: &[u8], room: usize, expected: &str) {
-        let case = Case { op: b'e', map: map.to_vec(), body: row.to_vec(), room };
+        let case = Case { op: b'e', map: map.to_vec(), body: row.to_vec(), room, tape: vec![] };
         self.add(&format!("evaluate {name}"), case, expected);
     }
 
     fn mark(&mut self, name: &str, map: &[u8], configuration: &[u8], expected: &str) {
         let body = configuration.to_vec();
-        let case = Case { op: b'm', map: map.to_vec(), body, room: 0 };
+        let case = Case { op: b'm', map: map.to_vec(), body, room: 0, tape: vec![] };
         self.add(&format!("mark {name}"), case, expected);
     }
 
     fn survey(&mut self, name: &str, map: &[u8], configuration: &[u8], room: usize, expected: &str) {
-        let case = Case { op: b's', map: map.to_vec(), body: configuration.to_vec(), room };
+        let case = Case { op: b's', map: map.to_vec(), body: configuration.to_vec(), room, tape: vec![] };
         self.add(&format!("survey {name}"), case, expected);
     }
 
@@ -299,6 +382,26 @@ impl List {
         let configuration = digits(configuration);
         let line = sizes(front, interest, bytes, 0);
         self.survey(name, map, &configuration, configuration.len(), &line);
+    }
+
+    fn make_move(&mut self, name: &str, map: &[u8], configuration: &[u8], entry: &[u8], room: usize, expected: &str) {
+        let body = configuration.to_vec();
+        let case = Case { op: b'v', map: map.to_vec(), body, room, tape: entry.to_vec() };
+        self.add(&format!("move {name}"), case, expected);
+    }
+
+    /// An accepted move with work memory of exactly the gate count: both
+    /// configurations and the bytes as digits.
+    fn moved(&mut self, name: &str, map: &[u8], before: &str, entry: [u8; 4], outcome: (usize, usize), after: &str, bytes: &str) {
+        let before = digits(before);
+        let line = moved(outcome, after, bytes, 0);
+        self.make_move(name, map, &before, &entry, before.len(), &line);
+    }
+
+    /// A declined move; the name says the number too.
+    fn unmoved(&mut self, name: &str, number: u8, map: &[u8], configuration: &[u8], entry: &[u8], room: usize) {
+        let line = unmoved(number, configuration, room);
+        self.make_move(name, map, configuration, entry, room, &line);
     }
 }
 
@@ -459,6 +562,14 @@ pub fn fixed() -> Vec<Named> {
     fixed_survey_shared(&mut list);
     fixed_survey_large(&mut list);
     fixed_survey_refused(&mut list);
+    fixed_move_bench(&mut list);
+    fixed_move_kinds(&mut list);
+    fixed_move_greedy(&mut list);
+    fixed_move_draws(&mut list);
+    fixed_move_below(&mut list);
+    fixed_move_large(&mut list);
+    fixed_move_refused(&mut list);
+    fixed_move_precedence(&mut list);
     list.0
 }
 
@@ -1243,6 +1354,621 @@ fn fixed_survey_refused(l: &mut List) {
     l.survey("gives 11, before 14: code broken and no memory", &adder, &digits("00110100"), 0, &declined(11, 0));
 }
 
+/// The moves of the bench examples, and the same with other option bytes.
+fn fixed_move_bench(l: &mut List) {
+    let adder = adder();
+    let a = "00110101";
+    let c = "00100001";
+    l.moved("A, down 0 (P3)", &adder, a, down(0), (3, 1), "10110101", "11110101");
+    l.moved("A, down 3 (P4)", &adder, a, down(3), (3, 1), "01110101", "11110101");
+    l.moved("A, up (P5)", &adder, a, up(0), (3, 1), "00100101", "44440701");
+    l.moved("C, greedy (P6)", &adder, c, greedy(0), (7, 1), "00101001", "44007001");
+    l.moved("C, up, option 1 (P7)", &adder, c, up(1), (7, 1), "00100101", "44440701");
+    let p9 = map(&[(INPUT, &[]), (NOT, &[0]), (AND, &[0, 1])], &[(2, 1)]);
+    l.moved("P9's first down", &p9, "001", down(0), (2, 2), "111", "571");
+    l.moved("P9's second down", &p9, "111", down(0), (1, 1), "011", "447");
+    let p11 = map(
+        &[(INPUT, &[]), (INPUT, &[]), (NOT, &[0]), (AND, &[0, 2]), (OR, &[1, 3])],
+        &[(4, 1)],
+    );
+    l.moved("P11's up", &p11, "00111", up(0), (3, 1), "00101", "44447");
+    l.moved("P11's down 0", &p11, "00101", down(0), (4, 1), "01101", "01001");
+
+    // Down: option modulo 2.
+    for option in [2, 4, 128, 254] {
+        l.moved(&format!("A, down {option}"), &adder, a, down(option), (3, 1), "10110101", "11110101");
+    }
+    for option in [1, 127, 253, 255] {
+        l.moved(&format!("A, down {option}"), &adder, a, down(option), (3, 1), "01110101", "11110101");
+    }
+    // Up on an uncoded gate: option unread.
+    for option in [1, 2, 3, 128, 255] {
+        l.moved(&format!("A, up, option {option}"), &adder, a, up(option), (3, 1), "00100101", "44440701");
+    }
+    // Up on the coded gate is down: option modulo 2.
+    for option in [0, 2, 254] {
+        l.moved(&format!("C, up, option {option}"), &adder, c, up(option), (7, 1), "00101001", "44007001");
+        l.moved(&format!("C, down {option}"), &adder, c, down(option), (7, 1), "00101001", "44007001");
+    }
+    for option in [3, 255] {
+        l.moved(&format!("C, up, option {option}"), &adder, c, up(option), (7, 1), "00100101", "44440701");
+        l.moved(&format!("C, down {option}"), &adder, c, down(option), (7, 1), "00100101", "44440701");
+    }
+    // Greedy with a single best option: every option byte takes it.
+    for option in [1, 2, 3, 255] {
+        l.moved(&format!("C, greedy, option {option}"), &adder, c, greedy(option), (7, 1), "00101001", "44007001");
+    }
+    // Greedy with two that tie.
+    for option in [0, 2, 254] {
+        l.moved(&format!("A, greedy, option {option}"), &adder, a, greedy(option), (3, 1), "10110101", "11110101");
+    }
+    for option in [1, 3, 255] {
+        l.moved(&format!("A, greedy, option {option}"), &adder, a, greedy(option), (3, 1), "01110101", "11110101");
+    }
+    // One option alone, whatever the kind and the option byte.
+    for (name, entry) in [("greedy 0", greedy(0)), ("greedy 7", greedy(7)), ("greedy 255", greedy(255)), ("down 1", down(1)), ("down 255", down(255))] {
+        l.moved(&format!("P9's start, {name}"), &p9, "001", entry, (2, 2), "111", "571");
+        l.moved(&format!("P9 after one down, {name}"), &p9, "111", entry, (1, 1), "011", "447");
+    }
+    l.moved("P9's start, up on the coded gate", &p9, "001", up(0), (2, 2), "111", "571");
+    l.moved("P9's start, up on the coded gate, option 255", &p9, "001", up(255), (2, 2), "111", "571");
+    l.moved("P9's start with one child right", &p9, "101", down(0), (2, 1), "111", "571");
+    l.moved("P9 after one down, up on a NOT", &p9, "111", up(0), (1, 1), "101", "447");
+    l.moved("P9 after one down, up on a NOT, option 1", &p9, "111", up(1), (1, 1), "101", "447");
+    l.moved("P11's start, down", &p11, "00111", down(0), (3, 1), "10111", "50711");
+    l.moved("P11's start, down 200", &p11, "00111", down(200), (3, 1), "10111", "50711");
+    l.moved("P11 after up, down 1", &p11, "00101", down(1), (4, 1), "00111", "40471");
+    l.moved("P11 after up, up on the coded gate, option 7", &p11, "00101", up(7), (4, 1), "00111", "40471");
+
+    // Work memory.
+    let line = |surplus| moved((3, 1), "10110101", "11110101", surplus);
+    for surplus in [1, 2, 92, 2040] {
+        let name = format!("A, down 0, surplus of {surplus}");
+        l.make_move(&name, &adder, &digits(a), &down(0), 8 + surplus, &line(surplus));
+    }
+    let line = moved((7, 1), "00101001", "44007001", 5);
+    l.make_move("C, greedy, surplus of 5", &adder, &digits(c), &greedy(0), 13, &line);
+    let line = moved((3, 1), "00100101", "44440701", 8);
+    l.make_move("A, up, surplus of 8", &adder, &digits(a), &up(0), 16, &line);
+}
+
+/// Each kind of gate, by itself and at the two values.
+fn fixed_move_kinds(l: &mut List) {
+    // NOT: its child.
+    for (value, before, after) in [(1, "11", "01"), (0, "00", "10")] {
+        let not = shown(1, NOT, value);
+        for (name, entry) in [("down 0", down(0)), ("down 255", down(255)), ("up 9", up(9)), ("greedy 3", greedy(3))] {
+            l.moved(&format!("coded NOT at {value}, {name}"), &not, before, entry, (1, 1), after, "11");
+        }
+    }
+    // XOR: first child or second child.
+    for (value, before, first, second) in [
+        (1, "001", "101", "011"),
+        (1, "111", "011", "101"),
+        (0, "010", "110", "000"),
+        (0, "100", "000", "110"),
+    ] {
+        let xor = shown(2, XOR, value);
+        for (name, entry, after) in [
+            ("down 0", down(0), first),
+            ("down 1", down(1), second),
+            ("down 254", down(254), first),
+            ("down 255", down(255), second),
+            ("up 0", up(0), first),
+            ("up 1", up(1), second),
+            ("up 2", up(2), first),
+            ("up 255", up(255), second),
+            ("greedy 2", greedy(2), first),
+            ("greedy 3", greedy(3), second),
+        ] {
+            l.moved(&format!("coded XOR, {before}, {name}"), &xor, before, entry, (2, 1), after, "111");
+        }
+    }
+    // AND at 0 and OR at 1 of every fan-in: one option per child.
+    for (n, at_255, at_100) in [(2, 1, 0), (3, 0, 1), (4, 3, 0), (5, 0, 0), (6, 3, 4), (7, 3, 2), (8, 7, 4)] {
+        for (name, kind, value, child, turned) in [("AND", AND, 0, "1", "0"), ("OR", OR, 1, "0", "1")] {
+            let gate = shown(n as u16, kind, value);
+            let before = format!("{}{value}", child.repeat(n));
+            for (option, place) in [(255, at_255), (100, at_100), (n as u8 - 1, n - 1), (n as u8, 0)] {
+                let after = format!("{}{turned}{}{value}", child.repeat(place), child.repeat(n - 1 - place));
+                let bytes = format!("{}1{}1", "0".repeat(place), "0".repeat(n - 1 - place));
+                l.moved(&format!("{name} of {n} at {value}, down {option}"), &gate, &before, down(option), (n, 1), &after, &bytes);
+                if n % 3 == 2 {
+                    l.moved(&format!("{name} of {n} at {value}, up {option}"), &gate, &before, up(option), (n, 1), &after, &bytes);
+                    l.moved(&format!("{name} of {n} at {value}, greedy {option}"), &gate, &before, greedy(option), (n, 1), &after, &bytes);
+                }
+            }
+        }
+    }
+    // AND at 1 and OR at 0 of every fan-in, all children wrong.
+    for n in 2..=8 {
+        for (name, kind, value, child) in [("AND", AND, 1, "0"), ("OR", OR, 0, "1")] {
+            let gate = shown(n as u16, kind, value);
+            let before = format!("{}{value}", child.repeat(n));
+            let after = value.to_string().repeat(n + 1);
+            let bytes = "1".repeat(n + 1);
+            for (kind, entry) in [("down 0", down(0)), ("down 255", down(255)), ("up 5", up(5)), ("greedy 1", greedy(1))] {
+                l.moved(&format!("{name} of {n} at {value}, all children wrong, {kind}"), &gate, &before, entry, (n, n), &after, &bytes);
+            }
+        }
+    }
+    // AND at 1 and OR at 0, some children right.
+    for (kind, name, before, turned) in [
+        (AND, "AND", "01011101 1", 3),
+        (AND, "AND", "01111111 1", 1),
+        (AND, "AND", "11111110 1", 1),
+        (AND, "AND", "10000000 1", 7),
+        (AND, "AND", "00001111 1", 4),
+        (OR, "OR", "01011101 0", 5),
+        (OR, "OR", "10000000 0", 1),
+        (OR, "OR", "00000001 0", 1),
+        (OR, "OR", "11111110 0", 7),
+        (OR, "OR", "10101010 0", 4),
+    ] {
+        let value = digits(before)[8];
+        let after = value.to_string().repeat(9);
+        let gate = shown(8, kind, value);
+        for (way, entry) in [("down 2", down(2)), ("up 1", up(1)), ("greedy 255", greedy(255))] {
+            l.moved(&format!("{name} of 8, {before}, {way}"), &gate, before, entry, (8, turned), &after, "111111111");
+        }
+    }
+}
+
+/// Greedy: ties, and what else the size of the interest set counts.
+fn fixed_move_greedy(l: &mut List) {
+    // 8 OR(2,3,4,5,6,7) at 1. Of its six options those of gates 3, 5, 6 and 7
+    // leave no front, those of gates 2 and 4 an interest set of 3.
+    let six = map(
+        &[
+            (INPUT, &[]),
+            (INPUT, &[]),
+            (AND, &[0, 1]),
+            (INPUT, &[]),
+            (XOR, &[0, 1]),
+            (INPUT, &[]),
+            (NOT, &[1]),
+            (INPUT, &[]),
+            (OR, &[2, 3, 4, 5, 6, 7]),
+        ],
+        &[(8, 1)],
+    );
+    let start = "000000001";
+    let gate_2 = ("001000001", "447000001");
+    let gate_3 = ("000100001", "000100001");
+    let gate_4 = ("000010001", "440070001");
+    let gate_5 = ("000001001", "000001001");
+    let gate_6 = ("000000101", "010000101");
+    let gate_7 = ("000000011", "000000011");
+    for (option, (after, bytes)) in [
+        (0, gate_3),
+        (1, gate_5),
+        (2, gate_6),
+        (3, gate_7),
+        (4, gate_3),
+        (5, gate_5),
+        (6, gate_6),
+        (7, gate_7),
+        (9, gate_5),
+        (254, gate_6),
+        (255, gate_7),
+    ] {
+        l.moved(&format!("four ties of six options, greedy {option}"), &six, start, greedy(option), (8, 1), after, bytes);
+    }
+    for (option, (after, bytes)) in [
+        (0, gate_2),
+        (1, gate_3),
+        (2, gate_4),
+        (3, gate_5),
+        (4, gate_6),
+        (5, gate_7),
+        (6, gate_2),
+        (8, gate_4),
+        (254, gate_4),
+        (255, gate_5),
+    ] {
+        l.moved(&format!("six options, down {option}"), &six, start, down(option), (8, 1), after, bytes);
+        l.moved(&format!("six options, up on the coded gate, option {option}"), &six, start, up(option), (8, 1), after, bytes);
+    }
+    // With gate 1 at 1 the options of gates 3, 4, 5 and 7 tie.
+    for (option, after, bytes) in [
+        (0, "010100001", "000100001"),
+        (1, "010010001", "110010001"),
+        (2, "010001001", "000001001"),
+        (7, "010000011", "000000011"),
+        (252, "010100001", "000100001"),
+    ] {
+        l.moved(&format!("four other ties of six options, greedy {option}"), &six, "010000001", greedy(option), (8, 1), after, bytes);
+    }
+
+    // Every option leaves a front: 4, 2, 3 and 2 gates of interest.
+    let costly = map(
+        &[
+            (INPUT, &[]),
+            (INPUT, &[]),
+            (INPUT, &[]),
+            (AND, &[0, 1, 2]),
+            (NOT, &[0]),
+            (XOR, &[0, 1]),
+            (NOT, &[1]),
+            (OR, &[3, 4, 5, 6]),
+        ],
+        &[(7, 1)],
+    );
+    for option in [0, 2, 128, 254] {
+        l.moved(&format!("two ties at 2, greedy {option}"), &costly, "11000001", greedy(option), (7, 1), "11001001", "40007001");
+    }
+    for option in [1, 3, 5, 255] {
+        l.moved(&format!("two ties at 2, greedy {option}"), &costly, "11000001", greedy(option), (7, 1), "11000011", "04000071");
+    }
+    l.moved("options of 4, 2, 3 and 2, down 0", &costly, "11000001", down(0), (7, 1), "11010001", "44470001");
+    l.moved("options of 4, 2, 3 and 2, down 254", &costly, "11000001", down(254), (7, 1), "11000101", "44000701");
+
+    // AND at 0 of gates 2, 3 and 4.
+    let three = map(
+        &[(INPUT, &[]), (INPUT, &[]), (OR, &[0, 1]), (INPUT, &[]), (NOT, &[0]), (AND, &[2, 3, 4])],
+        &[(5, 0)],
+    );
+    for option in [0, 2, 4] {
+        l.moved(&format!("AND at 0, two ties of three, greedy {option}"), &three, "101110", greedy(option), (5, 1), "101010", "000101");
+    }
+    for option in [1, 3, 5, 255] {
+        l.moved(&format!("AND at 0, two ties of three, greedy {option}"), &three, "101110", greedy(option), (5, 1), "101100", "100011");
+    }
+    for option in [0, 1, 2, 255] {
+        l.moved(&format!("AND at 0, the second option alone, greedy {option}"), &three, "011110", greedy(option), (5, 1), "011010", "000101");
+    }
+
+    // The other front gate's interest counts too: gate 3 gives 4, gate 4 gives
+    // 5, although gate 4 by itself would have the smaller one.
+    let beside = map(
+        &[
+            (INPUT, &[]),
+            (INPUT, &[]),
+            (INPUT, &[]),
+            (AND, &[0, 1]),
+            (NOT, &[2]),
+            (OR, &[3, 4]),
+            (XOR, &[0, 1]),
+        ],
+        &[(5, 1), (6, 1)],
+    );
+    for option in [0, 1, 255] {
+        l.moved(&format!("interest shared with another front gate, greedy {option}"), &beside, "0010011", greedy(option), (5, 1), "0011011", "4407017");
+    }
+    l.moved("the other front gate, greedy 0", &beside, "0010011", drawn(1, greedy(0)), (6, 1), "1010011", "5544471");
+    l.moved("the other front gate, greedy 1", &beside, "0010011", drawn(1, greedy(1)), (6, 1), "0110011", "5544471");
+
+    // An option that makes another coded gate wrong.
+    let pair = map(
+        &[(INPUT, &[]), (INPUT, &[]), (INPUT, &[]), (AND, &[0, 1]), (OR, &[1, 2])],
+        &[(3, 0), (4, 1)],
+    );
+    for option in [0, 1, 4, 255] {
+        l.moved(&format!("an option that breaks another gate is left, greedy {option}"), &pair, "10001", greedy(option), (4, 1), "10101", "01111");
+    }
+    l.moved("an option that breaks another gate, down 0", &pair, "10001", down(0), (4, 1), "11001", "45071");
+    l.moved("an option that breaks another gate, down 1", &pair, "10001", down(1), (4, 1), "10101", "01111");
+
+    // XOR with options of 3 and 0.
+    let zero = map(&ADDER, &[(7, 0)]);
+    for option in [0, 1, 2, 255] {
+        l.moved(&format!("XOR at 0, the second option alone, greedy {option}"), &zero, "01100000", greedy(option), (3, 1), "00100000", "11011101");
+    }
+}
+
+/// The front by rising gate number and the draw modulo its size.
+fn fixed_move_draws(l: &mut List) {
+    let adder = adder();
+    let a = "00110101";
+    for draw in [1, 2, 255, 256, 32_768, 65_534, 65_535] {
+        l.moved(&format!("front of one, draw {draw}"), &adder, a, drawn(draw, down(0)), (3, 1), "10110101", "11110101");
+    }
+    l.moved("front of one, draw 65535, down 255", &adder, a, drawn(65_535, down(255)), (3, 1), "01110101", "11110101");
+    l.moved("front of one, draw 65535, up", &adder, a, drawn(65_535, up(255)), (3, 1), "00100101", "44440701");
+    l.moved("front of one, draw 65535, greedy", &adder, a, drawn(65_535, greedy(255)), (3, 1), "01110101", "11110101");
+
+    // Three coded NOTs of three inputs, all in the front.
+    let nots = map(
+        &[(INPUT, &[]), (INPUT, &[]), (INPUT, &[]), (NOT, &[0]), (NOT, &[1]), (NOT, &[2])],
+        &[(3, 1), (4, 1), (5, 1)],
+    );
+    for (draw, gate) in [
+        (0, 3),
+        (1, 4),
+        (2, 5),
+        (3, 3),
+        (4, 4),
+        (5, 5),
+        (255, 3),
+        (256, 4),
+        (257, 5),
+        (512, 5),
+        (32_768, 5),
+        (65_280, 3),
+        (65_533, 4),
+        (65_534, 5),
+        (65_535, 3),
+    ] {
+        let (after, bytes) = match gate {
+            3 => ("011111", "144177"),
+            4 => ("101111", "414717"),
+            _ => ("110111", "441771"),
+        };
+        l.moved(&format!("front of three, draw {draw}"), &nots, "111111", drawn(draw, down(0)), (gate, 1), after, bytes);
+    }
+
+    // Of five coded NOTs the second, fourth and fifth are in the front.
+    let mut gates = vec![(INPUT, vec![]); 5];
+    gates.extend((0..5).map(|child| (NOT, vec![child])));
+    let five = build(&gates, &[(5, 1), (6, 1), (7, 1), (8, 1), (9, 1)]);
+    for (draw, gate, after, bytes) in [
+        (0, 6, "0001111111", "1114411177"),
+        (1, 8, "0100111111", "1411417117"),
+        (2, 9, "0101011111", "1414117171"),
+        (3, 6, "0001111111", "1114411177"),
+        (65_533, 8, "0100111111", "1411417117"),
+        (65_534, 9, "0101011111", "1414117171"),
+        (65_535, 6, "0001111111", "1114411177"),
+    ] {
+        l.moved(&format!("front of three with gaps, draw {draw}"), &five, "0101111111", drawn(draw, greedy(1)), (gate, 1), after, bytes);
+    }
+
+    // An uncoded NOT and a coded OR at 0 in the front.
+    let mixed: [(u8, &[u16]); 6] = [
+        (INPUT, &[]),
+        (NOT, &[0]),
+        (INPUT, &[]),
+        (XOR, &[1, 2]),
+        (INPUT, &[]),
+        (OR, &[0, 4]),
+    ];
+    let mixed = map(&mixed, &[(3, 1), (5, 0)]);
+    for draw in [0, 2, 256, 65_534] {
+        l.moved(&format!("front of two, draw {draw}, down"), &mixed, "110100", drawn(draw, down(0)), (1, 1), "010100", "111111");
+        l.moved(&format!("front of two, draw {draw}, up"), &mixed, "110100", drawn(draw, up(1)), (1, 1), "100100", "444747");
+    }
+    for draw in [1, 3, 257, 65_535] {
+        l.moved(&format!("front of two, draw {draw}, down"), &mixed, "110100", drawn(draw, down(1)), (5, 1), "010100", "111111");
+        l.moved(&format!("front of two, draw {draw}, up"), &mixed, "110100", drawn(draw, up(3)), (5, 1), "010100", "111111");
+        l.moved(&format!("front of two, draw {draw}, greedy"), &mixed, "110100", drawn(draw, greedy(9)), (5, 1), "010100", "111111");
+    }
+}
+
+/// Fronts below the coded gates.
+fn fixed_move_below(l: &mut List) {
+    // 3 AND(0,1) and 4 OR(1,2), both uncoded and both in the front.
+    let shared = map(
+        &[(INPUT, &[]), (INPUT, &[]), (INPUT, &[]), (AND, &[0, 1]), (OR, &[1, 2]), (AND, &[3, 4])],
+        &[(5, 1)],
+    );
+    for (name, entry, outcome, after, bytes) in [
+        ("AND at 1, down 0", down(0), (3, 2), "110111", "110111"),
+        ("AND at 1, down 255", down(255), (3, 2), "110111", "110111"),
+        ("AND at 1, greedy 1", greedy(1), (3, 2), "110111", "110111"),
+        ("AND at 1, up", up(77), (3, 1), "000011", "444447"),
+        ("OR at 1, down 0", drawn(1, down(0)), (4, 1), "010111", "450711"),
+        ("OR at 1, down 1", drawn(1, down(1)), (4, 1), "001111", "441711"),
+        ("OR at 1, down 255", drawn(1, down(255)), (4, 1), "001111", "441711"),
+        ("OR at 1, greedy 0", drawn(3, greedy(0)), (4, 1), "010111", "450711"),
+        ("OR at 1, greedy 3", drawn(65_535, greedy(3)), (4, 1), "001111", "441711"),
+        ("OR at 1, up 0", drawn(1, up(0)), (4, 1), "000101", "444447"),
+        ("OR at 1, up 1", drawn(1, up(1)), (4, 1), "000101", "444447"),
+    ] {
+        l.moved(&format!("uncoded {name}"), &shared, "000111", entry, outcome, after, bytes);
+    }
+    l.moved("uncoded AND at 1 with one child right", &shared, "010111", down(1), (3, 1), "110111", "110111");
+    l.moved("coded OR at 0 with one child wrong, up", &map(&ADDER, &[(7, 0)]), "11001000", up(0), (7, 1), "11000000", "55117101");
+
+    // AND at 0 and XOR at 0 below an OR at 0.
+    let zero = map(&ADDER, &[(7, 0)]);
+    for (name, entry, after, bytes) in [
+        ("down 0", down(0), "01000000", "54171101"),
+        ("down 1", down(1), "10000000", "45171101"),
+        ("down 255", down(255), "10000000", "45171101"),
+        ("greedy 2", greedy(2), "01000000", "54171101"),
+        ("greedy 255", greedy(255), "10000000", "45171101"),
+        ("up", up(1), "11001000", "44444407"),
+    ] {
+        l.moved(&format!("uncoded AND at 0, {name}"), &zero, "11000000", entry, (4, 1), after, bytes);
+    }
+    for (name, entry, after, bytes) in [
+        ("down 0", down(0), "11100000", "55017101"),
+        ("down 1", down(1), "00100000", "11011101"),
+        ("up 0", up(0), "01110000", "54441701"),
+        ("up 1", up(1), "01110000", "54441701"),
+    ] {
+        l.moved(&format!("uncoded XOR at 0, {name}"), &zero, "01100000", entry, (3, 1), after, bytes);
+    }
+
+    // A front gate that is a front gate's child.
+    let nested = map(
+        &[(INPUT, &[]), (INPUT, &[]), (AND, &[0, 1]), (NOT, &[2]), (AND, &[2, 3])],
+        &[(4, 1)],
+    );
+    for (name, entry, outcome, after, bytes) in [
+        ("the lower, down", drawn(65_534, down(0)), (2, 1), "11111", "55571"),
+        ("the lower, up", up(9), (2, 1), "01011", "44447"),
+        ("the upper, down", drawn(1, down(9)), (3, 1), "01011", "44447"),
+        ("the upper, greedy", drawn(65_535, greedy(9)), (3, 1), "01011", "44447"),
+        ("the upper, up", drawn(1, up(0)), (3, 1), "01101", "44447"),
+    ] {
+        l.moved(&format!("one front gate below another, {name}"), &nested, "01111", entry, outcome, after, bytes);
+    }
+
+    // Six levels.
+    let deep = deep();
+    for (name, entry, outcome, after, bytes) in [
+        ("draw 0, down 0", down(0), (5, 1), "01001011111", "10014111171"),
+        ("draw 0, down 1", down(1), (5, 1), "10001011111", "01014111171"),
+        ("draw 2, greedy 3", drawn(2, greedy(3)), (5, 1), "10001011111", "01014111171"),
+        ("draw 0, up", up(1), (5, 1), "11001111111", "44014471171"),
+        ("draw 1, down", drawn(1, down(0)), (9, 1), "11000011111", "44011711111"),
+        ("draw 65535, greedy", drawn(65_535, greedy(0)), (9, 1), "11000011111", "44011711111"),
+        ("draw 1, up", drawn(1, up(0)), (9, 1), "11001011101", "44444444447"),
+    ] {
+        l.moved(&format!("six levels, front of two, {name}"), &deep, "11001011111", entry, outcome, after, bytes);
+    }
+    for (name, entry, after, bytes) in [
+        ("down 0", down(0), "10000011111", "01011111111"),
+        ("down 1", down(1), "10010010111", "44411447111"),
+        ("greedy 0", greedy(0), "10000011111", "01011111111"),
+        ("greedy 1", greedy(1), "10000011111", "01011111111"),
+        ("up", up(0), "10010011011", "44444444447"),
+    ] {
+        l.moved(&format!("six levels, XOR near the top, {name}"), &deep, "10010011111", entry, (8, 1), after, bytes);
+    }
+    for (name, entry) in [("down", down(3)), ("up", up(4)), ("greedy", greedy(5))] {
+        l.moved(&format!("six levels, the coded gate, {name}"), &deep, "10000011101", entry, (10, 1), "10000011111", "01011111111");
+    }
+}
+
+fn fixed_move_large(l: &mut List) {
+    // A chain of 1,024 gates of which gate 512 alone is wrong.
+    let chain_of_1024 = chain(1024);
+    let broken = format!("{}{}", "10".repeat(256), "01".repeat(256));
+    let after = format!("{}11{}", "10".repeat(255), "01".repeat(256));
+    let bytes = format!("{}7{}", "4".repeat(511), "1".repeat(512));
+    l.moved("chain of 1,024 gates, gate 512 wrong, down", &chain_of_1024, &broken, drawn(65_535, down(255)), (512, 1), &after, &bytes);
+    let after = format!("{}11{}", "10".repeat(256), "01".repeat(255));
+    let bytes = format!("{}7{}", "4".repeat(513), "1".repeat(510));
+    l.moved("chain of 1,024 gates, gate 512 wrong, up", &chain_of_1024, &broken, drawn(7, up(1)), (512, 1), &after, &bytes);
+
+    let chain = chain(40);
+    let lowest = format!("11{}", "01".repeat(19));
+    let all = "1".repeat(40);
+    l.moved("chain of 40 gates, the lowest NOT wrong, down", &chain, &lowest, down(0), (1, 1), &"01".repeat(20), &all);
+    let after = format!("10{}", "01".repeat(19));
+    l.moved("chain of 40 gates, the lowest NOT wrong, up", &chain, &lowest, up(0), (1, 1), &after, &format!("447{}", "1".repeat(37)));
+    let middle = format!("{}{}", "10".repeat(10), "01".repeat(10));
+    let after = format!("{}11{}", "10".repeat(9), "01".repeat(10));
+    let bytes = format!("{}7{}", "4".repeat(19), "1".repeat(20));
+    l.moved("chain of 40 gates, gate 20 wrong, greedy", &chain, &middle, drawn(513, greedy(2)), (20, 1), &after, &bytes);
+    let highest = format!("{}11", "01".repeat(19));
+    l.moved("chain of 40 gates, the coded NOT wrong, up", &chain, &highest, up(0), (39, 1), &"01".repeat(20), &all);
+
+    // Gates 404 and 405 are in the front, ORs at 0 with gate 402 at 1.
+    let layers = layers();
+    let start = format!("{}1{}1{}", "0".repeat(402), "0".repeat(195), "0".repeat(425));
+    let after = format!("{}1{}", "0".repeat(598), "0".repeat(425));
+    let bytes = format!("{}0{}", "1".repeat(598), "1".repeat(425));
+    l.moved("512 layers of two gates, greedy", &layers, &start, drawn(65_534, greedy(255)), (404, 1), &after, &bytes);
+
+    // A front of 269: gates 1 to 269. One input turned makes all of them right
+    // and gate 270 wrong.
+    let ones = format!("1{}0", "1".repeat(269));
+    let after = format!("0{}0", "1".repeat(269));
+    let bytes = format!("5{}7", "1".repeat(269));
+    for (draw, gate) in [(65_535, 169), (256, 257)] {
+        l.moved(&format!("front of 269, draw {draw}"), &fan_of_nots(), &ones, drawn(draw, down(0)), (gate, 1), &after, &bytes);
+    }
+}
+
+fn fixed_move_refused(l: &mut List) {
+    let adder = adder();
+    let a = digits("00110101");
+    let b = digits("11111001");
+    let go = down(0);
+    let none = header([12, 0, 12, 0, 12, 0]);
+    let two = map(&ADDER, &[(6, 0), (7, 1)]);
+
+    l.unmoved("gives 1, empty map", 1, &[], &a, &go, 8);
+    l.unmoved("gives 1, 11 bytes", 1, &adder[..11], &a, &go, 8);
+    l.unmoved("gives 2, 0 gates", 2, &none, &[], &go, 8);
+    l.unmoved("gives 2, 1,025 gates", 2, &with16(&adder, 2, 1025), &a, &go, 8);
+    l.unmoved("gives 3, one byte too long", 3, &[&adder[..], &[0]].concat(), &a, &go, 8);
+    l.unmoved("gives 3, one byte cut off", 3, &adder[..67], &a, &go, 8);
+    l.unmoved("gives 4, kind 5 at the last gate", 4, &with(&adder, 40, 5), &a, &go, 8);
+    l.unmoved("gives 5, position wrong at the last gate", 5, &with(&adder, 42, 7), &a, &go, 8);
+    l.unmoved("gives 6, child equal to its gate", 6, &with(&adder, 62, 7), &a, &go, 8);
+    l.unmoved("gives 7, zero byte 1", 7, &with(&adder, 67, 1), &a, &go, 8);
+    l.unmoved("gives 8, coded child", 8, &map(&ADDER, &[(5, 1)]), &a, &go, 8);
+    l.unmoved("gives 9, empty configuration", 9, &adder, &[], &go, 8);
+    l.unmoved("gives 9, empty configuration and no memory", 9, &adder, &[], &go, 0);
+    l.unmoved("gives 9, seven bytes", 9, &adder, &digits("0011010"), &go, 8);
+    l.unmoved("gives 9, nine bytes", 9, &adder, &digits("001101011"), &go, 9);
+    l.unmoved("gives 9, 4 bytes for 260 gates (low byte)", 9, &inputs(260, &[]), &[1; 4], &go, 260);
+    l.unmoved("gives 10, first byte 2", 10, &adder, &digits("20110101"), &go, 8);
+    l.unmoved("gives 10, byte 255 on a gate outside the cone", 10, &adder, &[0, 0, 1, 1, 0, 1, 255, 1], &go, 8);
+    l.unmoved("gives 11, code 7 = 1 broken", 11, &adder, &digits("00110100"), &go, 8);
+    l.unmoved("gives 11, the first of two codes broken", 11, &two, &digits("11101011"), &go, 8);
+    l.unmoved("gives 11, the second of two codes broken", 11, &two, &digits("00000000"), &go, 12);
+    for length in [0, 1, 2, 3, 5, 6, 7, 8, 12, 260] {
+        let name = format!("gives 12, entry of length {length}");
+        l.unmoved(&name, 12, &adder, &a, &vec![0; length], 8);
+    }
+    l.unmoved("gives 12, two entries that are right by themselves", 12, &adder, &a, &[down(0), down(1)].concat(), 8);
+    let long = vec![0; 65_540];
+    l.unmoved("gives 12, entry of length 65,540 (4 modulo 65,536)", 12, &adder, &a, &long, 8);
+    for kind in [3, 4, 128, 254, 255] {
+        l.unmoved(&format!("gives 13, kind {kind}"), 13, &adder, &a, &[0, 0, kind, 0], 8);
+    }
+    l.unmoved("gives 13, all bytes 255", 13, &adder, &a, &[255; 4], 8);
+    for room in [0, 1, 3, 7] {
+        let name = format!("gives 14, work memory of length {room}");
+        l.unmoved(&name, 14, &adder, &a, &go, room);
+    }
+    l.unmoved("gives 14, greedy and work memory of 7 bytes", 14, &adder, &digits("00100001"), &greedy(0), 7);
+    l.unmoved("gives 14, up and work memory of 7 bytes", 14, &adder, &a, &up(0), 7);
+    l.unmoved("gives 14, 260 gates and work memory of 4 bytes (low byte)", 14, &inputs(260, &[]), &[1; 260], &go, 4);
+    for (name, entry) in [("greedy", greedy(0)), ("down", down(0)), ("up", up(0)), ("draw 65,535", drawn(65_535, down(255)))] {
+        l.unmoved(&format!("gives 15, B, {name}"), 15, &adder, &b, &entry, 8);
+    }
+    l.unmoved("gives 15, B, surplus of 4", 15, &adder, &b, &go, 12);
+    l.unmoved("gives 15, A after down 0", 15, &adder, &digits("10110101"), &go, 8);
+    l.unmoved("gives 15, no codes and wrong gates", 15, &map(&ADDER, &[]), &a, &go, 8);
+    l.unmoved("gives 15, one input, no code", 15, &inputs(1, &[]), &[1], &go, 1);
+    l.unmoved("gives 15, one coded input", 15, &inputs(1, &[(0, 1)]), &[1], &up(0), 1);
+    let aside = map(&[(INPUT, &[]), (INPUT, &[]), (NOT, &[0]), (AND, &[1, 2])], &[(3, 0)]);
+    l.unmoved("gives 15, a wrong NOT outside the cone", 15, &aside, &digits("1010"), &greedy(1), 6);
+    l.unmoved("gives 15, chain of 40 gates", 15, &chain(40), &digits(&"01".repeat(20)), &go, 40);
+}
+
+/// "with the first that holds"
+fn fixed_move_precedence(l: &mut List) {
+    let adder = adder();
+    let a = digits("00110101");
+    let b = digits("11111001");
+    let code_broken = digits("00110100");
+    let go = down(0);
+    let none = header([12, 0, 12, 0, 12, 0]);
+    let coded_child = map(&ADDER, &[(3, 1)]);
+
+    l.unmoved("gives 1, before all: no bytes anywhere", 1, &[], &[], &[], 0);
+    l.unmoved("gives 1, before 2: 11 zeros", 1, &[0; 11], &a, &go, 8);
+    l.unmoved("gives 2, before 3: 1,025 gates and a byte too many", 2, &[&with16(&adder, 2, 1025)[..], &[0]].concat(), &a, &go, 8);
+    l.unmoved("gives 2, before 12 and 14: 0 gates, no entry, no memory", 2, &none, &[2], &[], 0);
+    l.unmoved("gives 3, before 4: kind 5 and a byte too many", 3, &[&with(&adder, 12, 5)[..], &[0]].concat(), &a, &go, 8);
+    l.unmoved("gives 4, before 5: kind 5 at the last gate, position wrong at gate 0", 4, &with(&with(&adder, 40, 5), 14, 1), &a, &go, 8);
+    l.unmoved("gives 5, before 6: position wrong at the last gate, equal children at gate 3", 5, &with(&with(&adder, 42, 7), 46, 0), &a, &go, 8);
+    l.unmoved("gives 6, before 7: equal children at the last gate, value 2", 6, &with(&with(&adder, 62, 4), 66, 2), &a, &go, 8);
+    l.unmoved("gives 7, before 8: coded child first, value 2 in the last code", 7, &map(&ADDER, &[(3, 1), (7, 2)]), &a, &go, 8);
+    l.unmoved("gives 8, before 9: coded child and an empty configuration", 8, &coded_child, &[], &go, 8);
+    l.unmoved("gives 8, before 12: coded child and no entry", 8, &coded_child, &a, &[], 8);
+    l.unmoved("gives 9, before 10: nine bytes, one of them 2", 9, &adder, &digits("001101012"), &go, 9);
+    l.unmoved("gives 9, before 12: seven bytes and no entry", 9, &adder, &digits("0011010"), &[], 8);
+    l.unmoved("gives 9, before 13: seven bytes and kind 3", 9, &adder, &digits("0011010"), &[0, 0, 3, 0], 8);
+    l.unmoved("gives 9, before 14: seven bytes and work memory of 7 bytes", 9, &adder, &digits("0011010"), &go, 7);
+    l.unmoved("gives 10, before 11: byte 2 on the coded gate", 10, &adder, &digits("00110102"), &go, 8);
+    l.unmoved("gives 10, before 11: code broken, byte 2 on the first gate", 10, &adder, &digits("20110100"), &go, 8);
+    l.unmoved("gives 10, before 12: byte 2 and an entry of 3 bytes", 10, &adder, &digits("00210101"), &[0; 3], 8);
+    l.unmoved("gives 11, before 12: code broken and an entry of 5 bytes", 11, &adder, &code_broken, &[0; 5], 8);
+    l.unmoved("gives 11, before 12: code broken and no entry", 11, &adder, &code_broken, &[], 8);
+    l.unmoved("gives 11, before 13: code broken and kind 3", 11, &adder, &code_broken, &[0, 0, 3, 0], 8);
+    l.unmoved("gives 11, before 14: code broken and no memory", 11, &adder, &code_broken, &go, 0);
+    l.unmoved("gives 11, before 15: code broken and no gate wrong", 11, &adder, &digits("00000000"), &go, 8);
+    l.unmoved("gives 12, before 13: five bytes, kind 3", 12, &adder, &a, &[0, 0, 3, 0, 0], 8);
+    l.unmoved("gives 12, before 13: three bytes, kind 3", 12, &adder, &a, &[0, 0, 3], 8);
+    l.unmoved("gives 12, before 13: eight bytes, kind 255 twice", 12, &adder, &a, &[255; 8], 8);
+    l.unmoved("gives 12, before 14: no entry and no memory", 12, &adder, &a, &[], 0);
+    l.unmoved("gives 12, before 15: three bytes and B", 12, &adder, &b, &[0; 3], 8);
+    l.unmoved("gives 13, before 14: kind 3 and work memory of 7 bytes", 13, &adder, &a, &[0, 0, 3, 0], 7);
+    l.unmoved("gives 13, before 14: kind 3 and no memory", 13, &adder, &a, &[0, 0, 3, 0], 0);
+    l.unmoved("gives 13, before 15: kind 3 and B", 13, &adder, &b, &[0, 0, 3, 0], 8);
+    l.unmoved("gives 14, before 15: work memory of 7 bytes and B", 14, &adder, &b, &go, 7);
+    l.unmoved("gives 14, before 15: no memory and B", 14, &adder, &b, &greedy(0), 0);
+    l.unmoved("gives 14, before 15: no codes and no memory", 14, &inputs(1, &[]), &[0], &up(0), 0);
+}
+
 // -------------------------------------------------------------- random cases
 
 /// splitmix64.
@@ -1532,13 +2258,19 @@ fn damage_body(dice: &mut Dice, body: &mut Vec<u8>, other_length: usize) {
     }
 }
 
-/// A draft for an op. A survey without codes or of inputs alone shows little,
-/// so three in four of those drafts are drawn again.
+/// A draft for an op. A survey or move without codes or of inputs alone shows
+/// little: of those drafts three in four (surveys) or nine in ten (moves) are
+/// drawn again.
 fn draft_for(dice: &mut Dice, op: u8) -> (Draft, Vec<u8>, Vec<u8>) {
     loop {
         let drawn = random_draft(dice);
         let bare = drawn.0.codes.is_empty() || drawn.0.inputs() == drawn.0.gates.len();
-        if op != b's' || !bare || dice.one_in(4) {
+        let again = match op {
+            b's' => bare && !dice.one_in(4),
+            b'v' => bare && !dice.one_in(10),
+            _ => false,
+        };
+        if !again {
             return drawn;
         }
     }
@@ -1555,8 +2287,8 @@ fn random_room(dice: &mut Dice, gates: usize) -> usize {
     }
 }
 
-/// A configuration to survey: one that obeys every gate with a few gates
-/// turned, or any values. The codes are kept, save one time in eight.
+/// A configuration to survey or move: one that obeys every gate with a few gates
+/// turned, or any values. The codes are kept.
 fn random_configuration(dice: &mut Dice, draft: &Draft, obeying: Vec<u8>) -> Vec<u8> {
     let gates = obeying.len();
     let mut body = obeying;
@@ -1574,18 +2306,86 @@ fn random_configuration(dice: &mut Dice, draft: &Draft, obeying: Vec<u8>) -> Vec
             *byte = *value;
         }
     }
-    if dice.one_in(8) && !draft.codes.is_empty() {
-        // A broken code: 11.
-        let (gate, value) = draft.codes[dice.below(draft.codes.len())];
-        if let Some(byte) = body.get_mut(gate as usize) {
-            *byte = 1 - value.min(1);
+    body
+}
+
+/// Breaks a code: 11.
+fn break_code(dice: &mut Dice, draft: &Draft, body: &mut [u8]) {
+    if draft.codes.is_empty() {
+        return;
+    }
+    let (gate, value) = draft.codes[dice.below(draft.codes.len())];
+    if let Some(byte) = body.get_mut(gate as usize) {
+        *byte = 1 - value.min(1);
+    }
+}
+
+/// The survey's bytes, or none where Survey declines.
+fn surveyed_bytes(map: &[u8], body: &[u8]) -> Vec<u8> {
+    let mut memory = vec![0; body.len()];
+    match engine::survey(map, body, &mut memory) {
+        Ok(_) => memory,
+        Err(_) => vec![],
+    }
+}
+
+/// Puts a gate with one option per child into the front: of some AND at 0 in
+/// the cone all children become 1, of some OR at 1 all become 0.
+fn open_choice(dice: &mut Dice, draft: &Draft, map: &[u8], body: &mut [u8]) {
+    let mut choices = Vec::new();
+    for (gate, byte) in surveyed_bytes(map, body).iter().enumerate() {
+        let kind = draft.gates[gate].0;
+        if byte % 2 == 1 && [(AND, 0), (OR, 1)].contains(&(kind, body[gate])) {
+            choices.push(gate);
+        }
+    }
+    if choices.is_empty() {
+        return;
+    }
+    let gate = choices[dice.below(choices.len())];
+    for child in &draft.gates[gate].1 {
+        body[*child as usize] = 1 - body[gate];
+    }
+}
+
+/// A configuration to move: drawn again up to five times while its front is
+/// empty, save one time in twelve.
+fn moving_configuration(dice: &mut Dice, draft: &Draft, obeying: &[u8]) -> Vec<u8> {
+    let map = draft.bytes();
+    let tries = if dice.one_in(12) { 1 } else { 6 };
+    let mut body = obeying.to_vec();
+    for _ in 0..tries {
+        body = random_configuration(dice, draft, obeying.to_vec());
+        if !dice.one_in(4) {
+            open_choice(dice, draft, &map, &mut body);
+        }
+        let bytes = surveyed_bytes(&map, &body);
+        if bytes.is_empty() || bytes.contains(&7) {
+            break;
         }
     }
     body
 }
 
-/// The ops of random cases; surveys are five in seventeen.
-const OPS: &[u8; 17] = b"ccckkkeeemmmsssss";
+/// An entry: any draw, kind and option; now and then a kind above 2 or a wrong
+/// length, or both.
+fn random_entry(dice: &mut Dice) -> Vec<u8> {
+    let draw = match dice.below(4) {
+        0 => 0,
+        1 => dice.below(6),
+        2 => [255, 256, 65_280, 65_534, 65_535][dice.below(5)],
+        _ => dice.below(65_536),
+    };
+    let kind = if dice.one_in(16) { 3 + dice.byte() % 253 } else { [GREEDY, GREEDY, DOWN, UP][dice.below(4)] };
+    let mut entry = vec![(draw % 256) as u8, (draw / 256) as u8, kind, dice.byte()];
+    if dice.one_in(16) {
+        entry.resize([0, 1, 2, 3, 5, 6, 8, 12][dice.below(8)], kind);
+    }
+    entry
+}
+
+/// The ops of random cases; surveys are five in 27, moves eight.
+const OPS: &[u8; 27] = b"ccckkkkeeemmmmsssssvvvvvvvv";
 
 fn random_case(dice: &mut Dice) -> Case {
     let op = OPS[dice.below(OPS.len())];
@@ -1594,7 +2394,11 @@ fn random_case(dice: &mut Dice) -> Case {
     let inputs = draft.inputs();
 
     let children = draft.gates.iter().map(|(_, children)| children.len()).sum();
-    let whole = if op == b's' { 70 } else { 55 };
+    let whole = match op {
+        b's' => 70,
+        b'v' => 75,
+        _ => 55,
+    };
     let map = if dice.below(100) < whole {
         draft.bytes()
     } else if dice.below(9) < 4 {
@@ -1606,6 +2410,7 @@ fn random_case(dice: &mut Dice) -> Case {
     };
 
     let mut room = 0;
+    let mut tape = vec![];
     let body = match op {
         b'c' => vec![],
         b'k' => {
@@ -1628,6 +2433,21 @@ fn random_case(dice: &mut Dice) -> Case {
             room = random_room(dice, gates);
             let mut body = random_configuration(dice, &draft, configuration);
             if dice.one_in(8) {
+                break_code(dice, &draft, &mut body);
+            }
+            if dice.one_in(8) {
+                damage_body(dice, &mut body, inputs);
+            }
+            body
+        }
+        b'v' => {
+            room = if dice.one_in(2) { gates } else { random_room(dice, gates) };
+            tape = random_entry(dice);
+            let mut body = moving_configuration(dice, &draft, &configuration);
+            if dice.one_in(16) {
+                break_code(dice, &draft, &mut body);
+            }
+            if dice.one_in(16) {
                 damage_body(dice, &mut body, inputs);
             }
             body
@@ -1647,7 +2467,7 @@ fn random_case(dice: &mut Dice) -> Case {
             body
         }
     };
-    Case { op, map, body, room }
+    Case { op, map, body, room, tape }
 }
 
 /// At most n random cases from a seed; fewer where the next one would take the
@@ -1658,7 +2478,7 @@ pub fn random(seed: u64, n: usize) -> Vec<Case> {
     let mut total = 0;
     for _ in 0..n {
         let case = random_case(&mut dice);
-        if total + case.size() > FILE_LIMIT {
+        if total + case.size() > RANDOM_LIMIT {
             break;
         }
         total += case.size();

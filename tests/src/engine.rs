@@ -1,5 +1,5 @@
-//! The independent engine: check, children, evaluate, mark and survey, written
-//! straight from document 01 and from nothing else.
+//! The independent engine: check, children, evaluate, mark, survey and move,
+//! written straight from document 01 and from nothing else.
 //!
 //! It is slow and plain on purpose. Every offset, count and length is a whole
 //! number (u64) that cannot wrap for any map of up to 65,535 bytes, and every
@@ -12,6 +12,11 @@ pub const NOT: u8 = 1;
 pub const AND: u8 = 2;
 pub const OR: u8 = 3;
 pub const XOR: u8 = 4;
+
+/// "kind (0 greedy, 1 down, 2 up)"
+pub const GREEDY: u8 = 0;
+pub const DOWN: u8 = 1;
+pub const UP: u8 = 2;
 
 /// "**Check** returns counts of gates, inputs, children and codes."
 #[derive(Debug, Clone, Copy, PartialEq, Eq)]
@@ -533,4 +538,158 @@ pub fn survey(map: &[u8], configuration: &[u8], output: &mut [u8]) -> Result<(u6
         output[gate] = cone[gate] as u8 + 2 * front[gate] as u8 + 4 * interest[gate] as u8;
     }
     Ok((size_of(&front), size_of(&interest)))
+}
+
+/// "A tape entry is 4 bytes: draw (u16), kind (0 greedy, 1 down, 2 up), option."
+struct Entry {
+    draw: u64,
+    kind: u8,
+    option: u64,
+}
+
+/// Only asked for 4 bytes.
+fn entry_of(bytes: &[u8]) -> Entry {
+    Entry {
+        draw: u16_at(bytes, 0),
+        kind: bytes[2],
+        option: bytes[3] as u64,
+    }
+}
+
+/// "The front is listed by rising gate number".
+fn listed(set: &[bool]) -> Vec<u64> {
+    let mut list = Vec::new();
+    for (number, member) in set.iter().enumerate() {
+        if *member {
+            list.push(number as u64);
+        }
+    }
+    list
+}
+
+/// One option for each child in order, turning that child.
+fn one_by_one(children: &[u64]) -> Vec<Vec<u64>> {
+    children.iter().map(|child| vec![*child]).collect()
+}
+
+/// "Its down options, numbered from 0: AND at 1 or OR at 0, a single option
+/// that turns every wrong child; AND at 0 or OR at 1, one per child in order,
+/// turning that child; NOT, its child; XOR, first child or second child." Each
+/// is the list of the gates it turns: "A gate belongs to an option only if the
+/// option turns it." Only asked for gates of the front.
+fn down_options(gate: &GateRecord, value: u8, all_children: &[u64], configuration: &[u8]) -> Vec<Vec<u64>> {
+    let children = children_of(gate, all_children);
+    match (gate.kind, value) {
+        (AND, 1) => vec![children_at(0, &children, configuration)],
+        (OR, 0) => vec![children_at(1, &children, configuration)],
+        (AND, 0) | (OR, 1) => one_by_one(&children),
+        (NOT, _) | (XOR, _) => one_by_one(&children),
+        _ => panic!("an input is never in the front"),
+    }
+}
+
+/// The configuration with these gates turned.
+fn with_turned(configuration: &[u8], gates: &[u64]) -> Vec<u8> {
+    let mut after = configuration.to_vec();
+    for gate in gates {
+        after[*gate as usize] = 1 - after[*gate as usize];
+    }
+    after
+}
+
+/// The size of the interest set, as Survey returns it. Only asked for
+/// configurations that Survey accepts.
+fn interest_size(map: &[u8], configuration: &[u8]) -> u64 {
+    let mut output = vec![0; configuration.len()];
+    let (_, interest) = survey(map, configuration, &mut output).expect("codes are kept");
+    interest
+}
+
+/// "of the options with the smallest interest set after the move, in rising
+/// order". No option turns a coded gate, which is nobody's child.
+fn with_smallest_interest(map: &[u8], configuration: &[u8], options: &[Vec<u64>]) -> Vec<Vec<u64>> {
+    let mut sizes = Vec::new();
+    for option in options {
+        sizes.push(interest_size(map, &with_turned(configuration, option)));
+    }
+    let smallest = *sizes.iter().min().expect("a gate of the front has an option");
+    let mut list = Vec::new();
+    for (option, size) in options.iter().zip(sizes) {
+        if size == smallest {
+            list.push(option.clone());
+        }
+    }
+    list
+}
+
+/// The option at place `number` modulo how many there are.
+fn option_at(number: u64, options: &[Vec<u64>]) -> Vec<u64> {
+    options[(number % options.len() as u64) as usize].clone()
+}
+
+fn is_coded(map: &[u8], gate: u64) -> bool {
+    code_records(map).iter().any(|code| code.gate == gate)
+}
+
+/// The gates that an entry turns once its gate is drawn. "Down: option modulo
+/// the number of options. Up: turn the drawn gate itself, option byte unread.
+/// On a coded gate, up acts as down. Greedy: of the options with the smallest
+/// interest set after the move, in rising order, the one at option modulo
+/// their number."
+fn turned_by(map: &[u8], configuration: &[u8], drawn: u64, entry: &Entry) -> Vec<u64> {
+    let gate = &gate_records(map)[drawn as usize];
+    let value = configuration[drawn as usize];
+    let options = down_options(gate, value, &child_records(map), configuration);
+    match entry.kind {
+        GREEDY => option_at(entry.option, &with_smallest_interest(map, configuration, &options)),
+        DOWN => option_at(entry.option, &options),
+        UP if is_coded(map, drawn) => option_at(entry.option, &options),
+        UP => vec![drawn],
+        _ => panic!("test 13 declines such a kind"),
+    }
+}
+
+/// "**Move** does one entry and returns the drawn gate and how many values it
+/// turned (1 to 8). The lent configuration is then the new one, and the first
+/// bytes of the work memory, one per gate, are its survey." with "the gate
+/// drawn stands at place draw modulo front size, counted from 0." Numbers 1 to
+/// 15 apply, in that order; a declined call "leaves all lent memory untouched",
+/// and of longer memory "the surplus is never touched."
+pub fn make_move(
+    map: &[u8],
+    configuration: &mut [u8],
+    entry: &[u8],
+    work: &mut [u8],
+) -> Result<(u64, u64), u8> {
+    let counts = check(map)?;
+    if configuration.len() as u64 != counts.gates {
+        return Err(9);
+    }
+    if fails_10(configuration) {
+        return Err(10);
+    }
+    if fails_11(map, configuration) {
+        return Err(11);
+    }
+    if entry.len() != 4 {
+        return Err(12);
+    }
+    let entry = entry_of(entry);
+    if entry.kind > 2 {
+        return Err(13);
+    }
+    if (work.len() as u64) < counts.gates {
+        return Err(14);
+    }
+    let cone = cone_of(map, configuration);
+    let front = listed(&front_of(map, configuration, &cone));
+    if front.is_empty() {
+        return Err(15);
+    }
+    let drawn = front[(entry.draw % front.len() as u64) as usize];
+    let turned = turned_by(map, configuration, drawn, &entry);
+    let after = with_turned(configuration, &turned);
+    configuration.copy_from_slice(&after);
+    survey(map, configuration, work).expect("a move keeps the codes");
+    Ok((drawn, turned.len() as u64))
 }

@@ -165,6 +165,54 @@ mod tests {
         assert_eq!(output, [170; 7]);
     }
 
+    /// The moves of P3 to P7: configuration, entry, gate, new one, survey.
+    #[test]
+    fn moves_of_p3_to_p7() {
+        let a = [0, 0, 1, 1, 0, 1, 0, 1];
+        let c = [0, 0, 1, 0, 0, 0, 0, 1];
+        for (start, entry, gate, after, bytes) in [
+            (a, [0, 0, DOWN, 0], 3, [1, 0, 1, 1, 0, 1, 0, 1], [1, 1, 1, 1, 0, 1, 0, 1]),
+            (a, [0, 0, DOWN, 3], 3, [0, 1, 1, 1, 0, 1, 0, 1], [1, 1, 1, 1, 0, 1, 0, 1]),
+            (a, [0, 0, UP, 0], 3, [0, 0, 1, 0, 0, 1, 0, 1], [4, 4, 4, 4, 0, 7, 0, 1]),
+            (c, [0, 0, GREEDY, 0], 7, [0, 0, 1, 0, 1, 0, 0, 1], [4, 4, 0, 0, 7, 0, 0, 1]),
+            (c, [0, 0, UP, 1], 7, [0, 0, 1, 0, 0, 1, 0, 1], [4, 4, 4, 4, 0, 7, 0, 1]),
+        ] {
+            let mut configuration = start;
+            let mut work = [170; 9];
+            assert_eq!(make_move(&ADDER, &mut configuration, &entry, &mut work), Ok((gate, 1)));
+            assert_eq!(configuration, after);
+            assert_eq!(work[..8], bytes);
+            assert_eq!(work[8], 170);
+        }
+    }
+
+    #[test]
+    fn declined_moves_leave_both_memories() {
+        let a = [0, 0, 1, 1, 0, 1, 0, 1];
+        let b = [1, 1, 1, 1, 1, 0, 0, 1];
+        let broken = [0, 0, 1, 1, 0, 1, 0, 0];
+        let above = [2, 0, 1, 1, 0, 1, 0, 0];
+        let go: &[u8] = &[0, 0, DOWN, 0];
+        let list: [(&[u8], &[u8], &[u8], usize, u8); 9] = [
+            (&ADDER[..11], &a, go, 8, 1),
+            (&ADDER[..67], &a, go, 8, 3),
+            (&ADDER, &a[..7], go, 8, 9),
+            (&ADDER, &above, go, 8, 10),
+            (&ADDER, &broken, go, 8, 11),
+            (&ADDER, &a, &[0, 0, 3, 0, 0], 8, 12),
+            (&ADDER, &a, &[0, 0, 3, 0], 7, 13),
+            (&ADDER, &b, go, 7, 14),
+            (&ADDER, &b, go, 8, 15),
+        ];
+        for (map, start, entry, room, number) in list {
+            let mut configuration = start.to_vec();
+            let mut work = vec![170; room];
+            assert_eq!(make_move(map, &mut configuration, entry, &mut work), Err(number));
+            assert_eq!(configuration, start);
+            assert_eq!(work, vec![170; room]);
+        }
+    }
+
     #[test]
     fn children_are_a_stretch_of_the_lent_map() {
         let stretch = children(&ADDER, 7);
@@ -204,7 +252,7 @@ mod tests {
         assert_eq!(names.len(), list.len());
         let bytes = file(list.iter().map(|named| &named.case));
         println!("{} fixed cases, {} bytes", list.len(), bytes.len());
-        assert!(bytes.len() < 250_000);
+        assert!(bytes.len() < 400_000);
         let back = parse(&bytes).unwrap();
         assert_eq!(back.len(), list.len());
         assert!(back.iter().zip(&list).all(|(case, named)| *case == named.case));
@@ -225,15 +273,16 @@ mod tests {
         assert_eq!(of(b'e'), (1..=10).chain([14]).collect());
         assert_eq!(of(b'm'), (1..=10).collect());
         assert_eq!(of(b's'), (1..=11).chain([14]).collect());
+        assert_eq!(of(b'v'), (1..=15).collect());
     }
 
     #[test]
     fn random_covers_every_number() {
-        let cases = random(1, 500);
-        assert!(cases.len() >= 400, "only {} cases fit", cases.len());
+        let cases = random(1, 700);
+        assert!(cases.len() >= 560, "only {} cases fit", cases.len());
         let lines: Vec<String> = cases.iter().map(answer).collect();
-        assert_eq!(numbers(lines.iter()), (1..=11).chain([14]).collect());
-        for word in ["OK ", "DONE ", "YES", "NO", "CHILDREN ", "SIZES "] {
+        assert_eq!(numbers(lines.iter()), (1..=15).collect());
+        for word in ["OK ", "DONE ", "YES", "NO", "CHILDREN ", "SIZES ", "MOVED "] {
             let count = lines.iter().filter(|line| line.starts_with(word)).count();
             assert!(count >= 15, "{word}: {count}");
         }
@@ -274,12 +323,76 @@ mod tests {
         assert_eq!((with_byte[2], with_byte[3], with_byte[6]), (0, 0, 0));
     }
 
+    /// The outcome of a move case with another kind and option.
+    fn outcome(case: &Case, kind: u8, option: u8) -> Result<(u64, u64, Vec<u8>), u8> {
+        let mut configuration = case.body.clone();
+        let mut work = vec![170; case.room];
+        let mut entry = case.tape.clone();
+        if entry.len() == 4 {
+            entry[2] = kind;
+            entry[3] = option;
+        }
+        let (gate, turned) = make_move(&case.map, &mut configuration, &entry, &mut work)?;
+        Ok((gate, turned, configuration))
+    }
+
+    /// How many configurations a kind can lead to from a move case; an option
+    /// byte below 8 reaches each.
+    fn ways(case: &Case, kind: u8) -> usize {
+        let list: BTreeSet<Vec<u8>> = (0..8).map(|option| outcome(case, kind, option).unwrap().2).collect();
+        list.len()
+    }
+
+    /// The moves among random cases meet every number, every kind, and greedy
+    /// choices of all sorts.
+    #[test]
+    fn random_moves_are_not_bare() {
+        let moves: Vec<Case> = (0..8)
+            .flat_map(|seed| random(seed, 500))
+            .filter(|case| case.op == b'v')
+            .collect();
+        let lines: Vec<String> = moves.iter().map(answer).collect();
+        assert_eq!(numbers(lines.iter()), (1..=15).collect());
+        let mut kinds = [0; 3];
+        let (mut several, mut upward, mut coded) = (0, 0, 0);
+        let (mut fewer, mut tied, mut both) = (0, 0, 0);
+        for case in &moves {
+            let (kind, option) = match case.tape[..] {
+                [_, _, kind, option] => (kind, option),
+                _ => continue,
+            };
+            if let Ok((gate, turned, after)) = outcome(case, kind, option) {
+                kinds[kind as usize] += 1;
+                several += (turned > 1) as u32;
+                if kind == UP {
+                    let itself = after[gate as usize] != case.body[gate as usize];
+                    upward += itself as u32;
+                    coded += !itself as u32;
+                }
+                if kind == GREEDY {
+                    let (all, best) = (ways(case, DOWN), ways(case, GREEDY));
+                    fewer += (best < all) as u32;
+                    tied += (best > 1) as u32;
+                    both += (1 < best && best < all) as u32;
+                }
+            }
+        }
+        println!(
+            "{} moves, {kinds:?} done; {several} turn several; up: {upward} itself, {coded} coded; \
+             greedy: {fewer} with fewer than all, {tied} with ties, {both} with both",
+            moves.len()
+        );
+        assert!(kinds.iter().all(|count| *count >= 80));
+        assert!(several >= 30 && upward >= 30 && coded >= 30);
+        assert!(fewer >= 30 && tied >= 30 && both >= 15);
+    }
+
     #[test]
     fn random_keeps_to_the_format() {
         for seed in 0..20 {
             let cases = random(seed, 3000);
             let bytes = file(&cases);
-            assert!(bytes.len() <= FILE_LIMIT);
+            assert!(bytes.len() <= RANDOM_LIMIT && RANDOM_LIMIT <= FILE_LIMIT);
             assert_eq!(parse(&bytes), Ok(cases));
         }
         assert_eq!(random(7, 50), random(7, 50));
@@ -293,5 +406,20 @@ mod tests {
         assert_eq!(parse(&bytes[..bytes.len() - 1]).unwrap().len(), 2);
         assert_eq!(parse(&bytes[..6]).unwrap().len(), 0);
         assert_eq!(parse(&[]).unwrap().len(), 0);
+    }
+
+    /// A move's head is four bytes longer than the others', and the tape is last.
+    #[test]
+    fn a_move_that_is_cut_off_ends_the_file() {
+        let body = vec![0, 0, 1, 1, 0, 1, 0, 1];
+        let case = Case { op: b'v', map: ADDER.to_vec(), body, room: 8, tape: vec![1, 2, 3] };
+        let bytes = case.framed();
+        assert_eq!(bytes[..11], [b'v', 68, 0, 8, 0, 8, 0, 3, 0, 0, 0]);
+        assert_eq!(bytes[bytes.len() - 4..], [1, 1, 2, 3]);
+        assert_eq!(bytes.len(), case.size());
+        for length in 0..bytes.len() {
+            assert_eq!(parse(&bytes[..length]), Ok(vec![]));
+        }
+        assert_eq!(parse(&bytes), Ok(vec![case]));
     }
 }

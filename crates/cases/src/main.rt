@@ -1,12 +1,15 @@
-// Runs framed cases from standard input through Check, Children, Evaluate, Mark and Survey, and prints a line for each.
-// A case: an op byte, three u16 (the lengths of the map, of the body and of the output memory), the map, the body.
+// Runs framed cases from standard input through Check, Children, Evaluate, Mark, Survey and Move, and prints a line for each.
+// A case: an op byte, three u16 (the lengths of the map, of the body and of the output memory), for Move a u32 (the length of the tape), the map, the body,
+// the tape.
 use libc::STDIN_FILENO;
 use libc::STDOUT_FILENO;
 use map::Checked;
+use search::Moved;
 use state::Marked;
 use state::Written;
 use survey::Surveyed;
-ghost use Prim.Native.Nat.{_≤_};
+ghost use Prim.Native.Nat.{_≤_, _<_};
+ghost use lib.ListN.{length};
 
 fn print_number(n: usize) {
     io::write_all(STDOUT_FILENO, b" ");
@@ -121,14 +124,81 @@ fn mark(map: &[u8], configuration: &[u8]) {
     }
 }
 
-fn one_case(op: u8, map: &[u8], body: &[u8], room: usize) {
+// Copies what fits. Returns how much.
+fn copy(src: &[u8], dst: &mut [u8]) -> usize
+    ensures { λ r. ⌜ r ≤ length (now (dst .entry)) ⌝ }
+{
+    let mut i = 0;
+    while i < src.len() {
+        if dst.len() <= i {
+            return i;
+        }
+        dst[i] = src[i];
+        i += 1;
+    }
+    i
+}
+
+fn print_configuration(configuration: &[u8]) {
+    if configuration.len() == 0 {
+        io::write_all(STDOUT_FILENO, b" -");
+        return;
+    }
+    print_memory(configuration);
+}
+
+fn move_into(map: &[u8], configuration: &mut [u8], tape: &[u8], work: &mut [u8]) {
+    match search::make_move(map, configuration, tape, work) {
+        Moved::Done(turn) => {
+            io::write_all(STDOUT_FILENO, b"MOVED");
+            print_number(turn.gate);
+            print_number(turn.turned as usize);
+        }
+        Moved::Refused(k) => print_refused(k),
+    }
+}
+
+fn moved(map: &[u8], configuration: &mut [u8], tape: &[u8], work: &mut [u8]) {
+    move_into(map, configuration, tape, work);
+    print_configuration(configuration);
+    print_memory(work);
+}
+
+fn make_move(map: &[u8], body: &[u8], tape: &[u8], room: usize) {
+    let mut memory = [170u8; 2048];
+    let n = at_most_2048(room);
+    let mut space = [0u8; 65536];
+    let k = copy(body, &mut space);
+    moved(map, &mut space[..k], tape, &mut memory[..n]);
+}
+
+fn one_case(op: u8, map: &[u8], body: &[u8], tape: &[u8], room: usize) {
     match op {
         b'c' => check(map),
         b'k' => children(map, body),
         b'e' | b's' => write(op, map, body, room),
+        b'v' => make_move(map, body, tape, room),
         _ => mark(map, body),
     }
     io::write_all(STDOUT_FILENO, b"\n");
+}
+
+// The length of a case's header.
+fn header(op: u8) -> usize
+    ensures { λ r. ⌜ (7 ≤ r) × (r ≤ 11) ⌝ }
+{
+    if op == b'v' { 11 } else { 7 }
+}
+
+// The length of a case's tape.
+fn tape_length(rest: &[u8], head: usize) -> usize
+    requires { ⌜ head ≤ length (now rest) ⌝ }
+    ensures { λ r. ⌜ r < 4294967296 ⌝ }
+{
+    if head < 11 {
+        return 0;
+    }
+    map::decode::word(rest, 7) + 65536 * map::decode::word(rest, 9)
 }
 
 fn all_cases(s: &[u8]) {
@@ -138,15 +208,21 @@ fn all_cases(s: &[u8]) {
         if rest.len() < 7 {
             return;
         }
-        let middle = 7 + map::decode::word(rest, 1);
-        let end = middle + map::decode::word(rest, 3);
+        let head = header(rest[0]);
+        if rest.len() < head {
+            return;
+        }
+        let body = head + map::decode::word(rest, 1);
+        let tape = body + map::decode::word(rest, 3);
+        let end = tape + tape_length(rest, head);
         if rest.len() < end {
             return;
         }
         one_case(
             rest[0],
-            &rest[7..middle],
-            &rest[middle..end],
+            &rest[head..body],
+            &rest[body..tape],
+            &rest[tape..end],
             map::decode::word(rest, 5),
         );
         rest = &rest[end..];
@@ -155,7 +231,7 @@ fn all_cases(s: &[u8]) {
 }
 
 fn main() {
-    let mut buf = [0u8; 262144];
+    let mut buf = [0u8; 524288];
     let n = io::read_full(STDIN_FILENO, &mut buf);
     all_cases(&buf[..n]);
 }

@@ -4,3 +4,5 @@ pub mod Best
 pub mod Choices
 pub mod Fronts
 pub mod Answers
+pub mod Meaning
+pub mod Bench

@@ -1,3 +1,4 @@
 pub mod Tape
 pub mod Options
 pub mod Move
+pub mod Bench

@@ -1,14 +1,19 @@
 -- Document 01's Move, on bytes. Assumes nothing.
-use Prim.Native.Nat.{ℕ}
+use Prim.Native.Nat.{ℕ, _≤_}
+use mathlib.Core.Path.{_≡_}
+use mathlib.Core.Logic.{_↔_}
 use mathlib.Core.Bool.{Bool, true, false, cond, not}
 use mathlib.Core.List.{List, [], _∷_, _++_}
-use lib.ListN.{length}
+use lib.ListN.{length, getD, take, drop}
 use lib.Dec.{eqb, leb}
 use Rattle.circuit.specs.Tools.{isEmpty}
 use Rattle.circuit.specs.Survey.{front, survey}
-use Rattle.circuit.specs.Run.{move}
+use Rattle.circuit.specs.Evaluate.{KeepsCodes, differ}
+use Rattle.circuit.specs.Run.{turned, move}
+use Rattle.circuit.specs.Source001.{Front, Turned}
+use Rattle.circuit.specs.Promise.{NoFront, EntryDone}
 use Rattle.map.specs.Map.{gateCount, circuit}
-use Rattle.map.specs.Check.{firstFailed, mapTests}
+use Rattle.map.specs.Check.{firstFailed, mapTests, verdict}
 use Rattle.state.specs.State.{over}
 use Rattle.survey.specs.Survey.{startTests}
 use Rattle.search.specs.declared.Moved.{Moved}
@@ -65,6 +70,46 @@ movingBy n m s entry work =
 
 unfoldable pub moving : List ℕ → List ℕ → List ℕ → List ℕ → Moving
 moving m s entry work = movingBy (firstFailed (mapTests m ++ moveTests m s entry work)) m s entry work
+
+-- ---- what it means
+
+-- Of an accepted call: what its one entry does is `EntryDone`, document 01's move with the options of source document 001; the record and the two
+-- memories say so.
+pub record MoveMeans (m s entry work : List ℕ) (r : Moving) : Type 0 where
+  pub start : KeepsCodes (circuit m) s
+  pub does : EntryDone (circuit m) s (entryAt entry 0)
+  pub gate : Front (circuit m) s (r .gate)
+  pub turned : Turned (turned (circuit m) s (entryAt entry 0)) s (r .configuration)
+  pub count : (r .turned ≡ differ (circuit m) s (r .configuration)) × ((1 ≤ r .turned) × (r .turned ≤ 8))
+  pub keeps : KeepsCodes (circuit m) (r .configuration)
+  pub surveyed : take (gateCount m) (r .work) ≡ survey (circuit m) (r .configuration)
+  pub surplus : drop (gateCount m) (r .work) ≡ drop (gateCount m) work
+  pub long : length (r .work) ≡ length work
+
+abbrev pub MoveWrites : Type 0
+MoveWrites = (m s entry work : List ℕ) → moving m s entry work .accepted ≡ true → MoveMeans m s entry work (moving m s entry work)
+
+-- Move is accepted exactly for accepted maps, starts that keep the codes, an entry of 4 bytes with a kind up to 2, memory that is long enough, and a
+-- front that is not empty.
+pub record Movable (m s entry work : List ℕ) : Type 0 where
+  pub accepted : verdict m ≡ 0
+  pub start : KeepsCodes (circuit m) s
+  pub four : length entry ≡ 4
+  pub kind : getD entry 2 0 ≤ 2
+  pub room : gateCount m ≤ length work
+  pub front : ¬ NoFront (circuit m) s
+
+abbrev pub MoveAccepts : Type 0
+MoveAccepts = (m s entry work : List ℕ) → (moving m s entry work .accepted ≡ true) ↔ Movable m s entry work
+
+-- Declined, it gives a number, "leaves all lent memory untouched; the other numbers of its answer .. are then 0".
+pub record Declined (s work : List ℕ) (r : Moving) : Type 0 where
+  pub numbered : ¬ (r .number ≡ 0)
+  pub zeros : (r .gate ≡ 0) × (r .turned ≡ 0)
+  pub untouched : (r .configuration ≡ s) × (r .work ≡ work)
+
+abbrev pub MoveDeclines : Type 0
+MoveDeclines = (m s entry work : List ℕ) → moving m s entry work .accepted ≡ false → Declined s work (moving m s entry work)
 
 -- ---- for inner functions
 

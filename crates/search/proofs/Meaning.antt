@@ -1,0 +1,135 @@
+-- What Move means. Assumes nothing.
+use Prim.Native.Nat.{ℕ, _+_, _*_, _/_, _≤_}
+use mathlib.Core.Path.{_≡_, refl, sym, ap, _∙_}
+use mathlib.Core.Bool.{Bool, true, false, not, false≢true, true≢false}
+use mathlib.Core.Logic.{inl, inr}
+use mathlib.Core.List.{List, [], _∷_, _++_}
+use native.Mathlib.Omega.{arith}
+use lib.Dec.{eqb, leb}
+use lib.ListN.{length, getD, drop, length-append, length-drop}
+use lib.Seq.{take-at, drop-at}
+use borrow.Author.Tests.{eqb-true, eqb-false, eq-eqb, leb-true, le-leb, not-true, not-false}
+use Rattle.folds.specs.Folds.{allBelow}
+use Rattle.folds.proofs.Tests.{which}
+use Rattle.folds.proofs.Loops.{all-at, all-of}
+use Rattle.circuit.specs.Tools.{isEmpty}
+use Rattle.circuit.specs.Survey.{front, survey}
+use Rattle.circuit.specs.Run.{move}
+use Rattle.circuit.specs.Promise.{NoFront}
+use Rattle.circuit.proofs.Survey.{survey-is}
+use Rattle.circuit.proofs.Moves.{no-front, some-front, entry-done}
+use Rattle.map.specs.Map.{gateCount, circuit}
+use Rattle.map.specs.Check.{firstFailed, mapTests, verdict}
+use Rattle.map.proofs.Laws.{past, no-test, none-failed, passed-before}
+use Rattle.map.proofs.Accepted.{facts, well-formed}
+use Rattle.map.proofs.Answers.{behind-accepted}
+use Rattle.state.specs.State.{over}
+use Rattle.state.proofs.Meaning.{behind}
+use Rattle.survey.specs.Survey.{startTests}
+use Rattle.survey.proofs.Starts.{behind-start, start-of, of-start}
+use Rattle.search.specs.Tape.{entryAt, kindsTest}
+use Rattle.search.specs.Move.{frontTest, entryTests, moveTests, movingBy, moving, MoveWrites, Movable, MoveAccepts, MoveDeclines}
+
+module _ (m s entry work : List ℕ) where
+  abbrev number : ℕ
+  number = firstFailed (mapTests m ++ moveTests m s entry work)
+
+  none : moving m s entry work .accepted ≡ true → number ≡ 0
+  unfolding moving movingBy
+  none e = elim (which (eqb number 0)) [
+    | inl q ↦ eqb-true number 0 q
+    | inr q ↦ absurd (false≢true (rw q at e))
+  ]
+
+  accepted : number ≡ 0 → moving m s entry work .accepted ≡ true
+  unfolding moving movingBy
+  accepted e = rw (eq-eqb number 0 e)
+
+  -- a kind, as the test of a tape of one entry sees it
+  kind-of : length entry ≡ 4 → kindsTest entry ≡ true → getD entry 2 0 ≤ 2
+  unfolding kindsTest
+  kind-of l e = leb-true _ _ (all-at (λ i. leb (getD entry (4 * i + 2) 0) 2) (length entry / 4) 0 e (omega arith))
+
+  of-kind : length entry ≡ 4 → getD entry 2 0 ≤ 2 → kindsTest entry ≡ true
+  unfolding kindsTest
+  of-kind l h = all-of (λ i. leb (getD entry (4 * i + 2) 0) 2) (length entry / 4) (λ i b. (let z : i ≡ 0 = omega arith in rw z (le-leb _ _ h)))
+
+  -- what each test says
+  movable : number ≡ 0 → Movable m s entry work
+  unfolding moveTests entryTests frontTest
+  movable n =
+      let (v, t) = behind m (moveTests m s entry work) n in
+      let k = passed-before (startTests m s) _ t in
+      let t12 = none-failed 11 _ _ (sym (behind-start m s _ k) ∙ t) in
+      let t13 = none-failed 12 _ _ (t12 .1) in
+      let t14 = none-failed 13 _ _ (t13 .1) in
+      let t15 = none-failed 14 _ _ (t14 .1) in
+      let four = eqb-true _ _ (t12 .0) in
+      record {
+        accepted = v;
+        start = start-of m s k;
+        four = four;
+        kind = kind-of four (t13 .0);
+        room = leb-true _ _ (t14 .0);
+        front = some-front (circuit m) (well-formed m (facts m v)) s (not-true _ (t15 .0));
+      }
+
+  of-movable : Movable m s entry work → number ≡ 0
+  unfolding moveTests entryTests frontTest
+  of-movable a =
+      behind-accepted m _ (a .accepted)
+      ∙ behind-start m s _ (of-start m s (a .start))
+      ∙ past _ _ _ (eq-eqb _ _ (a .four))
+      ∙ past _ _ _ (of-kind (a .four) (a .kind))
+      ∙ past _ _ _ (le-leb _ _ (a .room))
+      ∙ past _ _ _ (elim (which (isEmpty (front (circuit m) s))) [
+        | inl q ↦ absurd (a .front (no-front (circuit m) (well-formed m (facts m (a .accepted))) s q))
+        | inr q ↦ rw q
+      ])
+      ∙ no-test
+
+  written : number ≡ 0 → moving m s entry work ≡ record {
+    accepted = true;
+    number = 0;
+    gate = move (circuit m) s (entryAt entry 0) .gate;
+    turned = move (circuit m) s (entryAt entry 0) .flips;
+    configuration = move (circuit m) s (entryAt entry 0) .next;
+    work = over (survey (circuit m) (move (circuit m) s (entryAt entry 0) .next)) work;
+  }
+  unfolding moving movingBy
+  written e = rw (eq-eqb number 0 e)
+
+pub move-writes : MoveWrites
+move-writes m s entry work e =
+    let n = none m s entry work e in
+    let a = movable m s entry work n in
+    let ok = well-formed m (facts m (a .accepted)) in
+    let d = entry-done (circuit m) ok s (a .start) (some-of m s (a .accepted) (a .front)) (entryAt entry 0) in
+    let l : length (survey (circuit m) (move (circuit m) s (entryAt entry 0) .next)) ≡ gateCount m = survey-is (circuit m) ok (move (circuit m) s (entryAt entry 0) .next) .long in
+    rw (written m s entry work n) (record {
+      start = a .start;
+      does = d;
+      gate = d .in-front;
+      turned = d .turns;
+      count = (sym (d .differs), d .few);
+      keeps = d .keeps;
+      surveyed = take-at _ _ (gateCount m) l;
+      surplus = drop-at (survey (circuit m) (move (circuit m) s (entryAt entry 0) .next)) _ (gateCount m) l ∙ ap (λ (i : ℕ). drop i work) l;
+      long = simp (length-append, length-drop) (omega (arith, a .room));
+    })
+  where
+    some-of : (m s : List ℕ) → verdict m ≡ 0 → ¬ NoFront (circuit m) s → isEmpty (front (circuit m) s) ≡ false
+    some-of m s v h = elim (which (isEmpty (front (circuit m) s))) [
+      | inl q ↦ absurd (h (no-front (circuit m) (well-formed m (facts m v)) s q))
+      | inr q ↦ q
+    ]
+
+pub move-accepts : MoveAccepts
+move-accepts m s entry work = (λ e. movable m s entry work (none m s entry work e), λ a. accepted m s entry work (of-movable m s entry work a))
+
+pub move-declines : MoveDeclines
+unfolding moving movingBy
+move-declines m s entry work e = elim (which (eqb (number m s entry work) 0)) [
+  | inl q ↦ absurd (true≢false (rw q at e))
+  | inr q ↦ rw q (record { numbered = eqb-false (number m s entry work) 0 q; zeros = (refl, refl); untouched = (refl, refl) })
+]
