@@ -56,12 +56,12 @@ unfoldable pub turned : Circuit → List ℕ → Entry → List ℕ
 turned c s e = chosen c s (drawn c s (e .draw)) (e .choice)
 
 -- "Move does one entry and returns the drawn gate and how many values it turned (1 to 8). The lent configuration is then the new one"
-pub record Moved : Type 0 where
+pub record Made : Type 0 where
   pub gate : ℕ
   pub flips : ℕ
   pub next : List ℕ
 
-abbrev pub move : Circuit → List ℕ → Entry → Moved
+abbrev pub move : Circuit → List ℕ → Entry → Made
 move c s e = record { gate = drawn c s (e .draw); flips = length (turned c s e); next = turn (turned c s e) s }
 
 -- ---- Run

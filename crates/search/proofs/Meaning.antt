@@ -1,15 +1,14 @@
 -- What Move means. Assumes nothing.
 use Prim.Native.Nat.{ℕ, _+_, _*_, _/_, _≤_}
 use mathlib.Core.Path.{_≡_, refl, sym, ap, _∙_}
-use mathlib.Core.Bool.{Bool, true, false, not, false≢true, true≢false}
+use mathlib.Core.Bool.{true, false, false≢true, true≢false}
 use mathlib.Core.Logic.{inl, inr}
-use mathlib.Core.List.{List, [], _∷_, _++_}
+use mathlib.Core.List.{List, _++_}
 use native.Mathlib.Omega.{arith}
 use lib.Dec.{eqb, leb}
 use lib.ListN.{length, getD, drop, length-append, length-drop}
 use lib.Seq.{take-at, drop-at}
-use borrow.Author.Tests.{eqb-true, eqb-false, eq-eqb, leb-true, le-leb, not-true, not-false}
-use Rattle.folds.specs.Folds.{allBelow}
+use borrow.Author.Tests.{eqb-true, eqb-false, eq-eqb, leb-true, le-leb, not-true}
 use Rattle.folds.proofs.Tests.{which}
 use Rattle.folds.proofs.Loops.{all-at, all-of}
 use Rattle.circuit.specs.Tools.{isEmpty}
@@ -19,16 +18,17 @@ use Rattle.circuit.specs.Promise.{NoFront}
 use Rattle.circuit.proofs.Survey.{survey-is}
 use Rattle.circuit.proofs.Moves.{no-front, some-front, entry-done}
 use Rattle.map.specs.Map.{gateCount, circuit}
-use Rattle.map.specs.Check.{firstFailed, mapTests, verdict}
+use Rattle.map.specs.Check.{firstFailed, contentsTests, bodiesTests, mapTests, verdict}
 use Rattle.map.proofs.Laws.{past, no-test, none-failed, passed-before}
 use Rattle.map.proofs.Accepted.{facts, well-formed}
 use Rattle.map.proofs.Answers.{behind-accepted}
 use Rattle.state.specs.State.{over}
 use Rattle.state.proofs.Meaning.{behind}
+use Rattle.state.specs.State.{configurationTests}
 use Rattle.survey.specs.Survey.{startTests}
 use Rattle.survey.proofs.Starts.{behind-start, start-of, of-start}
 use Rattle.search.specs.Tape.{entryAt, kindsTest}
-use Rattle.search.specs.Move.{frontTest, entryTests, moveTests, movingBy, moving, MoveWrites, Movable, MoveAccepts, MoveDeclines}
+use Rattle.search.specs.Move.{frontTest, entryTests, moveTests, movingBy, moving, MoveWrites, Movable, MoveAccepts, MoveTestsInOrder, MoveDeclines}
 
 module _ (m s entry work : List ℕ) where
   abbrev number : ℕ
@@ -68,10 +68,10 @@ module _ (m s entry work : List ℕ) where
       record {
         accepted = v;
         start = start-of m s k;
-        four = four;
+        four-bytes = four;
         kind = kind-of four (t13 .0);
         room = leb-true _ _ (t14 .0);
-        front = some-front (circuit m) (well-formed m (facts m v)) s (not-true _ (t15 .0));
+        some-front = some-front (circuit m) (well-formed m (facts m v)) s (not-true _ (t15 .0));
       }
 
   of-movable : Movable m s entry work → number ≡ 0
@@ -79,11 +79,11 @@ module _ (m s entry work : List ℕ) where
   of-movable a =
       behind-accepted m _ (a .accepted)
       ∙ behind-start m s _ (of-start m s (a .start))
-      ∙ past _ _ _ (eq-eqb _ _ (a .four))
-      ∙ past _ _ _ (of-kind (a .four) (a .kind))
+      ∙ past _ _ _ (eq-eqb _ _ (a .four-bytes))
+      ∙ past _ _ _ (of-kind (a .four-bytes) (a .kind))
       ∙ past _ _ _ (le-leb _ _ (a .room))
       ∙ past _ _ _ (elim (which (isEmpty (front (circuit m) s))) [
-        | inl q ↦ absurd (a .front (no-front (circuit m) (well-formed m (facts m (a .accepted))) s q))
+        | inl q ↦ absurd (a .some-front (no-front (circuit m) (well-formed m (facts m (a .accepted))) s q))
         | inr q ↦ rw q
       ])
       ∙ no-test
@@ -104,13 +104,14 @@ move-writes m s entry work e =
     let n = none m s entry work e in
     let a = movable m s entry work n in
     let ok = well-formed m (facts m (a .accepted)) in
-    let d = entry-done (circuit m) ok s (a .start) (some-of m s (a .accepted) (a .front)) (entryAt entry 0) in
+    let d = entry-done (circuit m) ok s (a .start) (some-of m s (a .accepted) (a .some-front)) (entryAt entry 0) in
     let l : length (survey (circuit m) (move (circuit m) s (entryAt entry 0) .next)) ≡ gateCount m = survey-is (circuit m) ok (move (circuit m) s (entryAt entry 0) .next) .long in
     rw (written m s entry work n) (record {
       start = a .start;
       does = d;
-      gate = d .in-front;
-      turned = d .turns;
+      number = refl;
+      gate = (refl, d .in-front);
+      turns = d .turns;
       count = (sym (d .differs), d .few);
       keeps = d .keeps;
       surveyed = take-at _ _ (gateCount m) l;
@@ -127,9 +128,13 @@ move-writes m s entry work e =
 pub move-accepts : MoveAccepts
 move-accepts m s entry work = (λ e. movable m s entry work (none m s entry work e), λ a. accepted m s entry work (of-movable m s entry work a))
 
+pub move-tests-in-order : MoveTestsInOrder
+unfolding mapTests contentsTests bodiesTests moveTests startTests configurationTests entryTests
+move-tests-in-order m s entry work = refl
+
 pub move-declines : MoveDeclines
 unfolding moving movingBy
 move-declines m s entry work e = elim (which (eqb (number m s entry work) 0)) [
   | inl q ↦ absurd (true≢false (rw q at e))
-  | inr q ↦ rw q (record { numbered = eqb-false (number m s entry work) 0 q; zeros = (refl, refl); untouched = (refl, refl) })
+  | inr q ↦ rw q (record { numbered = (eqb-false (number m s entry work) 0 q, refl); zeros = (refl, refl); untouched = (refl, refl) })
 ]

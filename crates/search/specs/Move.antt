@@ -3,7 +3,7 @@ use Prim.Native.Nat.{ℕ, _≤_}
 use mathlib.Core.Path.{_≡_}
 use mathlib.Core.Logic.{_↔_}
 use mathlib.Core.Bool.{Bool, true, false, cond, not}
-use mathlib.Core.List.{List, [], _∷_, _++_}
+use mathlib.Core.List.{List, [], _∷_, _++_, map}
 use lib.ListN.{length, getD, take, drop}
 use lib.Dec.{eqb, leb}
 use Rattle.circuit.specs.Tools.{isEmpty}
@@ -74,12 +74,13 @@ moving m s entry work = movingBy (firstFailed (mapTests m ++ moveTests m s entry
 -- ---- what it means
 
 -- Of an accepted call: what its one entry does is `EntryDone`, document 01's move with the options of source document 001; the record and the two
--- memories say so.
+-- memories say so. (What `survey` says of a configuration is 001's: `SurveyIs001`.)
 pub record MoveMeans (m s entry work : List ℕ) (r : Moving) : Type 0 where
   pub start : KeepsCodes (circuit m) s
   pub does : EntryDone (circuit m) s (entryAt entry 0)
-  pub gate : Front (circuit m) s (r .gate)
-  pub turned : Turned (turned (circuit m) s (entryAt entry 0)) s (r .configuration)
+  pub number : r .number ≡ 0
+  pub gate : (r .gate ≡ move (circuit m) s (entryAt entry 0) .gate) × Front (circuit m) s (r .gate)
+  pub turns : Turned (turned (circuit m) s (entryAt entry 0)) s (r .configuration)
   pub count : (r .turned ≡ differ (circuit m) s (r .configuration)) × ((1 ≤ r .turned) × (r .turned ≤ 8))
   pub keeps : KeepsCodes (circuit m) (r .configuration)
   pub surveyed : take (gateCount m) (r .work) ≡ survey (circuit m) (r .configuration)
@@ -94,22 +95,29 @@ MoveWrites = (m s entry work : List ℕ) → moving m s entry work .accepted ≡
 pub record Movable (m s entry work : List ℕ) : Type 0 where
   pub accepted : verdict m ≡ 0
   pub start : KeepsCodes (circuit m) s
-  pub four : length entry ≡ 4
+  pub four-bytes : length entry ≡ 4
   pub kind : getD entry 2 0 ≤ 2
   pub room : gateCount m ≤ length work
-  pub front : ¬ NoFront (circuit m) s
+  pub some-front : ¬ NoFront (circuit m) s
 
 abbrev pub MoveAccepts : Type 0
 MoveAccepts = (m s entry work : List ℕ) → (moving m s entry work .accepted ≡ true) ↔ Movable m s entry work
 
--- Declined, it gives a number, "leaves all lent memory untouched; the other numbers of its answer .. are then 0".
-pub record Declined (s work : List ℕ) (r : Moving) : Type 0 where
-  pub numbered : ¬ (r .number ≡ 0)
+-- Its tests are those of numbers 1 to 15, in this order.
+abbrev pub MoveTestsInOrder : Type 0
+MoveTestsInOrder =
+    (m s entry work : List ℕ)
+    → map (λ (t : ℕ × Bool). t .0) (mapTests m ++ moveTests m s entry work) ≡ 1 ∷ 2 ∷ 3 ∷ 4 ∷ 5 ∷ 6 ∷ 7 ∷ 8 ∷ 9 ∷ 10 ∷ 11 ∷ 12 ∷ 13 ∷ 14 ∷ 15 ∷ []
+
+-- Declined, it gives the number of the first that fails, "leaves all lent memory untouched; the other numbers of its answer .. are then 0".
+pub record Declined (s work : List ℕ) (n : ℕ) (r : Moving) : Type 0 where
+  pub numbered : (¬ (n ≡ 0)) × (r .number ≡ n)
   pub zeros : (r .gate ≡ 0) × (r .turned ≡ 0)
   pub untouched : (r .configuration ≡ s) × (r .work ≡ work)
 
 abbrev pub MoveDeclines : Type 0
-MoveDeclines = (m s entry work : List ℕ) → moving m s entry work .accepted ≡ false → Declined s work (moving m s entry work)
+MoveDeclines = (m s entry work : List ℕ) → moving m s entry work .accepted ≡ false
+    → Declined s work (firstFailed (mapTests m ++ moveTests m s entry work)) (moving m s entry work)
 
 -- ---- for inner functions
 

@@ -17,7 +17,7 @@ use Rattle.map.specs.Kinds.{optionCount, optionTurns}
 unfoldable pub frontBy : List ℕ → List ℕ
 frontBy w = select (λ g. eqb (getD w g 0) 3) (upTo (length w))
 
--- how many options gate g of the map m has in s, and the gates of option i
+-- how many options gate g of the map m has in s
 unfoldable pub optionsOf : List ℕ → List ℕ → ℕ → ℕ
 optionsOf m s g = optionCount (kindOf (kindByte m g)) (on s g) (fanIn m g)
 

@@ -3,8 +3,8 @@ mod draw;
 mod greedy;
 mod moving;
 mod options;
-pub mod step;
-pub mod tape;
+mod step;
+mod tape;
 mod weights;
 
 use map::Checked;
@@ -23,7 +23,7 @@ pub enum Moved {
     Refused(u8),
 }
 
-// Move: does one tape entry on the configuration, and writes its survey into the first bytes of `work`.
+// Move: does one tape entry on the configuration, and writes the survey of the new one into the first bytes of `work`.
 pub fn make_move(map: &[u8], configuration: &mut [u8], entry: &[u8], work: &mut [u8]) -> Moved
     ensures { λ r. ⌜ did r (now (configuration .exit)) (now (work .exit)) ≡ moving (now (map .entry)) (now (configuration .entry)) (now (entry .entry)) (now (work .entry)) ⌝ }
 {

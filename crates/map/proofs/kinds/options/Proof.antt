@@ -6,9 +6,15 @@ use Rattle.map.proofs.kinds.options.Tie as tie
 use Rattle.map.proofs.kinds.options.Reads as reads
 use Rattle.map.proofs.kinds.options.Lts as lts
 
+returns-2 : tie.Need-returns-2
+returns-2 c = rw (c .before .match .keys2, c .if1 .taken)
+
+returns-3 : tie.Need-returns-3
+returns-3 c = rw (c .before .match .keys2, c .if1 .left)
+
 returns-6 : tie.Need-returns-6
 returns-6 c = elim (not-or-xor (c .before .args .kind) (search needs) (search needs) (search needs)) [ inl e ↦ rw e | inr e ↦ rw e ]
 
 pub options-spec : {M : Type 1} → statement M
 options-spec =
-    tie.close (tie.spec (λ c. search needs) (λ c. search needs) (λ c. search needs) (λ c. search needs) (λ c. search needs) returns-6)
+    tie.close (tie.spec (λ c. search needs) returns-2 returns-3 (λ c. search needs) (λ c. search needs) returns-6)

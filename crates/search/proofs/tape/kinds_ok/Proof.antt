@@ -1,13 +1,13 @@
 use denote.Ref.{now}
 use native.Mathlib.Omega.{arith}
 use Prim.Native.Nat.{ℕ, _+_, _-_, _*_, _/_, _<_, _≤_}
-use mathlib.Core.Path.{_≡_}
+use mathlib.Core.Path.{_≡_, sym}
 use mathlib.Core.Bool.{true}
 use lib.Dec.{leb}
 use lib.ListN.{length, getD}
 use borrow.Author.Tests.{le-leb, lt-leb}
 use Rattle.folds.specs.Folds.{allBelow}
-use Rattle.folds.proofs.Loops.{all-more, loops-of}
+use Rattle.folds.proofs.Loops.{all-more, all-fails, loops-of}
 use Rattle.search.specs.Tape.{kindsTest}
 use borrow.Author.Needs.{needs}
 use Rattle.search.proofs.tape.kinds_ok.Statement.{statement}
@@ -33,7 +33,7 @@ shared-slice-read-if1 c = let l = c .before .before .loop in let t = c .before .
 
 returns : tie.Need-returns Inv-loop μ-loop
 unfolding kindsTest
-returns c = search (needs, loops-of, lt-leb)
+returns c = let l = c .before .before .before .loop in sym (all-fails _ _ (l .i) (omega arith) (lt-leb _ _ (c .if1 .taken)))
 
 loop-again : tie.Need-loop-again Inv-loop μ-loop
 loop-again c = let l = c .before .before .before .loop in (search needs, all-more _ (l .i) (l .inv .1) (le-leb _ _ (c .if1 .left)))

@@ -15,7 +15,9 @@ rem-place : tie.Need-rem-place
 rem-place c = omega (arith, some-least _ _ _ (c .before .least .ensures), c .ties .ensures)
 
 place-requires : tie.Need-place-requires
-place-requires c κs = let h = some-least _ _ _ (c .before .least .ensures) in (c .before .before .before .pre .1, rw (c .ties .ensures) (mod-lt _ h))
+place-requires c κs = let h = some-least _ _ _ (c .before .least .ensures) in
+    let e = c .ties .ensures in
+    (c .before .before .before .pre .1, omega (arith, e, mod-lt (c .before .before .before .args .i) {m = c .ties .result} (omega arith)))
 
 returns : tie.Need-returns
 returns c = (c .place .ensures .0 ∙ rw (c .before .ties .ensures) (sym (best-is _ _ _ (c .before .before .least .ensures) _)), c .place .ensures .1)
