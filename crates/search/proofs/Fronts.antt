@@ -1,7 +1,7 @@
 -- The front by its marks, and the gate that an entry draws. Assumes nothing.
 use Prim.Native.Nat.{ℕ, _+_, _*_, _<_, _≤_, _%_}
 use mathlib.Core.Path.{_≡_, refl, ap, _∙_}
-use mathlib.Core.Bool.{Bool, true, false, false≢true}
+use mathlib.Core.Bool.{Bool, true, false, not, false≢true}
 use mathlib.Core.List.{List, [], _∷_, map}
 use native.Mathlib.Omega.{arith}
 use lib.ListN.{length, getD}
@@ -24,6 +24,13 @@ three true false h = refl
 three false true h = absurd (false≢true (h refl))
 three false false h = refl
 
+-- and 0 of a gate outside the cone
+nonzero : (k f : Bool) → (f ≡ true → k ≡ true) → not (eqb (byte k + 2 * byte f) 0) ≡ k
+nonzero true true h = refl
+nonzero true false h = refl
+nonzero false true h = absurd (false≢true (h refl))
+nonzero false false h = refl
+
 empty : (xs : List ℕ) → length xs ≡ 0 → isEmpty xs ≡ true
 empty [] e = refl
 empty (x ∷ xs) e = absurd (omega arith)
@@ -34,6 +41,14 @@ module _ (c : Circuit) (s : List ℕ) where
   front-by w e = rw (e, length-table (λ g. byte (cone c s g) + 2 * byte (inFront c s g)) (c .gates))
       (select-same (λ g. eqb (getD (map (λ x. byte (cone c s x) + 2 * byte (inFront c s x)) (upTo (c .gates))) g 0) 3) (inFront c s) (upTo (c .gates)) (λ g m.
       rw (map-at (λ x. byte (cone c s x) + 2 * byte (inFront c s x)) (c .gates) g 0 (in-upTo g (c .gates) m)) (three (cone c s g) (inFront c s g) (front-cone c s g))))
+
+  pub marks-length : (w : List ℕ) → w ≡ coneMarks c s → length w ≡ c .gates
+  unfolding coneMarks
+  marks-length w e = rw e (length-table (λ g. byte (cone c s g) + 2 * byte (inFront c s g)) (c .gates))
+
+  pub cone-by : (w : List ℕ) → w ≡ coneMarks c s → (g : ℕ) → g < c .gates → not (eqb (getD w g 0) 0) ≡ cone c s g
+  unfolding coneMarks
+  cone-by w e g l = rw (e, map-at (λ x. byte (cone c s x) + 2 * byte (inFront c s x)) (c .gates) g 0 l) (nonzero (cone c s g) (inFront c s g) (front-cone c s g))
 
   pub front-some : 1 ≤ frontSize c s → isEmpty (front c s) ≡ false
   unfolding frontSize

@@ -6,3 +6,7 @@ pub mod Fronts
 pub mod Answers
 pub mod Meaning
 pub mod Bench
+pub mod Runs
+pub mod Tapes
+pub mod RunMeaning
+pub mod Demands

@@ -1,15 +1,19 @@
-// Searching a map for a state that shows its codes: single moves.
+// Searching a map for a state that shows its codes: single moves, and whole runs on a tape.
+mod answer;
 mod draw;
 mod greedy;
 mod moving;
 mod options;
+mod running;
 mod step;
 mod tape;
 mod weights;
 
+use circuit::Outcome;
 use map::Checked;
 ghost use mathlib.Core.Path.{_≡_};
 ghost use Rattle.search.specs.Move.{did, moving};
+ghost use Rattle.search.specs.Run.{gave, running};
 
 // The gate that an entry drew, and how many values it turned.
 pub struct Turn {
@@ -37,6 +41,32 @@ pub fn make_move(map: &[u8], configuration: &mut [u8], entry: &[u8], work: &mut 
             configuration,
             entry,
             work,
+        ),
+    }
+}
+
+// Run: does the tape's entries until the front is empty or the tape is used up. The configuration is then the last one, the first bytes of `work` are its survey,
+// and for Found those of `answer` a state that shows the codes.
+pub fn run(
+    map: &[u8],
+    configuration: &mut [u8],
+    tape: &[u8],
+    work: &mut [u8],
+    answer: &mut [u8],
+) -> Outcome
+    ensures { λ r. ⌜ gave r (now (configuration .exit)) (now (work .exit)) (now (answer .exit)) ≡ running (now (map .entry)) (now (configuration .entry)) (now (tape .entry)) (now (work .entry)) (now (answer .entry)) ⌝ }
+{
+    match map::check(map) {
+        Checked::Refused(k) => running::refused(k),
+        Checked::Accepted(counts) => running::run_accepted(
+            map,
+            counts.gates,
+            counts.children,
+            counts.codes,
+            configuration,
+            tape,
+            work,
+            answer,
         ),
     }
 }

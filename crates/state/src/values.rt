@@ -16,7 +16,7 @@ ghost use Rattle.map.specs.Check.{IsMap};
 ghost use Rattle.state.specs.State.{over, bitsTest, writes, rowEvaluation, Bits};
 
 // A value as a byte.
-fn bit(v: bool) -> u8
+pub fn bit(v: bool) -> u8
     ensures { λ r. ⌜ r ≡ byte v ⌝ }
 {
     if v { 1 } else { 0 }

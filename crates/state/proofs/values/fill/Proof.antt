@@ -9,7 +9,7 @@ use Rattle.circuit.specs.Evaluate.{inputsBefore}
 use Rattle.map.specs.Map.{circuit}
 use Rattle.map.proofs.Laws.{inputs-none, inputs-more}
 use Rattle.map.proofs.Accepted.{well-formed}
-use Rattle.state.proofs.Filling.{filled, filled-none, filled-more, filled-all}
+use Rattle.state.proofs.Filling.{filled, rowValue, filled-none, filled-more, filled-all}
 use borrow.Author.Needs.{needs}
 use Rattle.state.proofs.values.fill.Statement.{statement}
 use Rattle.state.proofs.values.fill.Tie as tie
@@ -20,7 +20,7 @@ use Rattle.map.proofs.decode.kind.Reads as kind-reads
 use Rattle.state.proofs.values.gate_value.Reads as gate-value-reads
 
 abbrev Inv-loop : tie.InvT-loop
-Inv-loop map gates row out₀ at₀ g₀ out at g = (g ≤ gates) × ((at ≡ inputsBefore (circuit map) g) × ((at ≤ g) × ((out ≡ filled (circuit map) row out₀ g) × (length out ≡ length out₀))))
+Inv-loop map gates row out₀ at₀ g₀ out at g = (g ≤ gates) × ((at ≡ inputsBefore (circuit map) g) × ((at ≤ g) × ((out ≡ filled (circuit map) (rowValue (circuit map) row) out₀ g) × (length out ≡ length out₀))))
 
 abbrev μ-loop : tie.MeasureT-loop
 μ-loop map gates row out₀ at₀ g₀ out at g = gates - g
@@ -45,7 +45,7 @@ loop-again c = let l = c .before .before .before .before .before .loop in
           omega arith,
           (
             ap (λ (o : List ℕ). set o (l .g) v) (l .inv .1 .1 .1 .0)
-                ∙ filled-more (circuit (now (s .args .map))) (well-formed _ (s .pre .0 .0)) (now (s .args .row)) (now (s .args .out)) (l .g) v (omega arith) (omega arith) e,
+                ∙ filled-more (circuit (now (s .args .map))) (well-formed _ (s .pre .0 .0)) (rowValue (circuit (now (s .args .map))) (now (s .args .row))) (now (s .args .out)) (l .g) v (omega arith) (omega arith) e,
             simp length-set (l .inv .1 .1 .1 .1),
           ),
         ),

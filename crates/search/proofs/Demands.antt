@@ -1,0 +1,186 @@
+-- Demands 2 and 3, about Run on bytes. Assumes nothing.
+use Prim.Native.Nat.{ℕ, zero, suc, _*_, _≤_}
+use mathlib.Core.Path.{_≡_, refl, sym, ap, _∙_}
+use mathlib.Core.Bool.{true}
+use mathlib.Core.Logic.{inl, inr}
+use mathlib.Core.List.{List, _++_}
+use mathlib.Core.List.{List·Memᴰ as In, List·Memᴰ·cases-cons as cases, List·Memᴰ·not-nil as nowhere}
+use native.Mathlib.Omega.{arith}
+use lib.Dec.{eqb}
+use lib.ListN.{length, take, drop, replicate, length-append, length-drop, length-map, length-replicate}
+use lib.Seq.{take-at, drop-at}
+use Rattle.folds.proofs.Tests.{which}
+use Rattle.circuit.specs.declared.Ending.{Ending}
+use Rattle.circuit.specs.declared.Ending.the-variants.{Found, Spent, Refused}
+use Rattle.circuit.specs.declared.Entry.{Entry}
+use Rattle.circuit.specs.Circuit.{WellFormed}
+use Rattle.circuit.specs.Evaluate.{KeepsCodes, differ}
+use Rattle.circuit.specs.Survey.{survey}
+use Rattle.circuit.specs.Run.{Ended, run, answer}
+use Rattle.circuit.specs.Promise.{config, Promised, FinishingTape}
+use Rattle.circuit.proofs.Found.{answer-is}
+use Rattle.circuit.proofs.Survey.{survey-is}
+use Rattle.circuit.proofs.Trace.{demand2-on-circuits}
+use Rattle.circuit.proofs.Turns.{differ-most}
+use Rattle.circuit.proofs.Finish.{demand3-on-circuits}
+use Rattle.map.specs.Map.{gateCount, circuit}
+use Rattle.map.specs.Check.{firstFailed, mapTests, verdict}
+use Rattle.map.proofs.Accepted.{facts, well-formed}
+use Rattle.state.specs.State.{over}
+use Rattle.state.proofs.Meaning.{mark-says}
+use Rattle.survey.proofs.Meaning.{survey-writes}
+use Rattle.search.specs.Tape.{entries}
+use Rattle.search.specs.Run.{tapeTests, runTests, acceptedBy, answered, ran, runningBy, running, Room, Runnable}
+use Rattle.search.specs.Demands.{Satisfies, FoundWrites, RunMeans, Demand2, SameForAllMemories, AreDraws, Way, Plain, tapeOf, Finishing, Demand3}
+use Rattle.search.proofs.Meaning.{move-writes}
+use Rattle.search.proofs.RunMeaning.{run-ends, of-room, none, written, runnable, of-runnable}
+use Rattle.search.proofs.Tapes.{entries-length, entry-is, waysOf, ways-length, ways-plain, entries-back, tape-length, tape-kinds, tape-bytes}
+
+-- ---- a lent memory w with x written over its first n bytes
+
+module _ (x w : List ℕ) (n : ℕ) (l : length x ≡ n) where
+  over-first : take n (over x w) ≡ x
+  over-first = take-at x (drop (length x) w) n l
+
+  over-rest : drop n (over x w) ≡ drop n w
+  over-rest = drop-at x (drop (length x) w) n l ∙ ap (λ (i : ℕ). drop i w) l
+
+  over-long : n ≤ length w → length (over x w) ≡ length w
+  over-long h = simp (length-append, length-drop) (omega arith)
+
+-- ---- demand 2
+
+-- what is not Found leaves the answer memory
+not-answered : (e : Ending) (x ans : List ℕ) → ¬ (e ≡ Found) → answered e x ans ≡ ans
+not-answered Found x ans n = absurd (n refl)
+not-answered (Spent f) x ans n = refl
+not-answered (Refused k) x ans n = refl
+
+module _ (m s tape work ans : List ℕ) (a : Runnable m s tape work ans) where
+  abbrev end : Ended
+  end = run (circuit m) s (entries tape)
+
+  ok : WellFormed (circuit m)
+  ok = well-formed m (facts m (a .accepted))
+
+  promised : Promised (circuit m) s (entries tape) (config (circuit m) s (entries tape)) end
+  promised = demand2-on-circuits .runs (circuit m) ok s (a .start) (entries tape)
+
+  found-writes : end .outcome .ending ≡ Found → FoundWrites m (end .last) ans (over (answer (circuit m) (end .last)) ans)
+  found-writes f =
+      let w = answer-is (circuit m) ok (end .last) .0 in
+      let l : length (answer (circuit m) (end .last)) ≡ gateCount m = w .configuration .long in
+      let first = over-first (answer (circuit m) (end .last)) ans (gateCount m) l in
+      record {
+        answered = rw first w;
+        marked = rw first (mark-says m (answer (circuit m) (end .last)) .1 (a .accepted, promised .shows f));
+        surplus = over-rest (answer (circuit m) (end .last)) ans (gateCount m) l;
+        long = over-long (answer (circuit m) (end .last)) ans (gateCount m) l (a .room .answer-room);
+      }
+
+  means : RunMeans m s tape work ans (ran (circuit m) end work ans)
+  means =
+      let l : length (survey (circuit m) (end .last)) ≡ gateCount m = survey-is (circuit m) ok (end .last) .long in
+      record {
+        start = a .start;
+        entries-are = entries-length tape (a .whole-entries);
+        entry-is = entry-is tape (a .whole-entries);
+        promised = promised;
+        number = run-ends (circuit m) s (entries tape) .number;
+        front = run-ends (circuit m) s (entries tape) .front;
+        surveyed = over-first (survey (circuit m) (end .last)) work (gateCount m) l;
+        work-surplus = over-rest (survey (circuit m) (end .last)) work (gateCount m) l;
+        work-long = over-long (survey (circuit m) (end .last)) work (gateCount m) l (a .room .work-room);
+        found = λ f. rw f (found-writes f);
+        not-found = not-answered (end .outcome .ending) (answer (circuit m) (end .last)) ans;
+      }
+
+run-means : (m s tape work ans : List ℕ) → acceptedBy (running m s tape work ans .outcome .ending) ≡ true → RunMeans m s tape work ans (running m s tape work ans)
+run-means m s tape work ans e = let n = none m s tape work ans e in rw (written m s tape work ans n) (means m s tape work ans (runnable m s tape work ans n))
+
+pub demand2 : Demand2
+demand2 = record { notions = demand2-on-circuits; surveys = survey-writes; moves = move-writes; runs = run-means }
+
+-- ---- all memories: the tests of two calls are the same, and what their number gives too
+
+module _ (m s tape work ans work' ans' : List ℕ) where
+  same-tests : Room m work ans → Room m work' ans' → runTests m s tape work ans ≡ runTests m s tape work' ans'
+  unfolding runTests tapeTests
+  same-tests r r' = rw (of-room m work ans r, of-room m work' ans' r')
+
+  same-by : (n : ℕ) → (runningBy n m s tape work ans .outcome ≡ runningBy n m s tape work' ans' .outcome)
+      × (runningBy n m s tape work ans .configuration ≡ runningBy n m s tape work' ans' .configuration)
+  unfolding runningBy
+  same-by n = elim (which (eqb n 0)) [
+    | inl q ↦ rw q (refl, refl)
+    | inr q ↦ rw q (refl, refl)
+  ]
+
+pub same-for-all-memories : SameForAllMemories
+unfolding running
+same-for-all-memories m s tape work ans work' ans' r r' =
+    rw (same-tests m s tape work ans work' ans' r r') (same-by m s tape work ans work' ans' (firstFailed (mapTests m ++ runTests m s tape work' ans')))
+
+-- ---- demand 3
+
+-- what Found leaves in the answer memory satisfies the map
+only : (m s tape work ans : List ℕ) → running m s tape work ans .outcome .ending ≡ Found → (a : List ℕ) × Satisfies m a
+only m s tape work ans f = (take (gateCount m) (running m s tape work ans .answer), run-means m s tape work ans (ap acceptedBy f) .found f .marked)
+
+module _ (m s : List ℕ) (v : verdict m ≡ 0) (k : KeepsCodes (circuit m) s) where
+  -- a tape of entries that ends Found, as bytes
+  module _ (ds : List ℕ) (n : ℕ) (d : AreDraws ds) (short : length ds ≤ 16383) (f : FinishingTape (circuit m) s ds n) where
+    abbrev ways : List Way
+    ways = waysOf (f .tape)
+
+    one-each : length ways ≡ length ds
+    one-each = ways-length (f .tape) ∙ sym (length-map (f .tape) (λ (e : Entry). e .draw)) ∙ ap length (f .draws)
+
+    plain : (w : Way) → In w ways → Plain w
+    plain = ways-plain (f .tape) (f .plain)
+
+    reads : entries (tapeOf ds ways) ≡ f .tape
+    reads = rw (f .draws) at (entries-back (f .tape))
+
+    long : length (tapeOf ds ways) ≡ 4 * length ds
+    long = tape-length ds ways one-each
+
+    can-run : (work ans : List ℕ) → Room m work ans → Runnable m s (tapeOf ds ways) work ans
+    can-run work ans r = record {
+      accepted = v;
+      start = k;
+      whole-entries = rw long (omega arith);
+      not-longer = rw long (omega arith);
+      kinds = λ i h. tape-kinds ds ways plain i;
+      room = r;
+    }
+
+    runs : (work ans : List ℕ) → Room m work ans → running m s (tapeOf ds ways) work ans ≡ ran (circuit m) (run (circuit m) s (f .tape)) work ans
+    runs work ans r = written m s (tapeOf ds ways) work ans (of-runnable m s (tapeOf ds ways) work ans (can-run work ans r)) ∙ rw reads
+
+    finishing : Finishing m s ds n
+    finishing = record {
+      ways = ways;
+      one-each = one-each;
+      plain = plain;
+      bytes = tape-bytes ds ways d plain;
+      run-finds = λ work ans r. rw (runs work ans r) (record { found = f .ends-found; moves = f .moves; flips = f .flips });
+    }
+
+  bounded : (a : List ℕ) → Satisfies m a → (ds : List ℕ) → AreDraws ds → length ds ≡ differ (circuit m) s a → Finishing m s ds (differ (circuit m) s a)
+  bounded a y ds d l =
+      finishing ds (differ (circuit m) s a) d (omega (arith, facts m v .sound .placed .shaped .few, differ-most (circuit m) s a))
+      (demand3-on-circuits (circuit m) (well-formed m (facts m v)) s k .bounded a (mark-says m a .0 y .1) ds l)
+
+zeros-are-draws : (n : ℕ) → AreDraws (replicate n 0)
+zeros-are-draws zero = λ d i. absurd (nowhere i)
+zeros-are-draws (suc n) = λ d i. elim (cases i) [ inl q ↦ rw q (omega arith) | inr j ↦ zeros-are-draws n d j ]
+
+pub demand3 : Demand3
+demand3 m s v k = record {
+  only = only m s;
+  some-tape = λ a y. (let n = differ (circuit m) s a in
+      let f = bounded m s v k a y (replicate n 0) (zeros-are-draws n) (length-replicate n 0) in
+      (tapeOf (replicate n 0) (f .ways), f .bytes, λ work ans r. f .run-finds work ans r .found));
+  bounded = bounded m s v k;
+}

@@ -1,0 +1,127 @@
+-- Which calls Run accepts, and what a declined one gives. Assumes nothing.
+use Prim.Native.Nat.{ℕ}
+use mathlib.Core.Path.{_≡_, refl, sym, _∙_}
+use mathlib.Core.Bool.{Bool, true, false≢true, true≢false}
+use mathlib.Core.Logic.{inl, inr}
+use mathlib.Core.List.{List, [], _∷_, _++_}
+use lib.Dec.{eqb, leb}
+use lib.ListN.{length}
+use borrow.Author.Tests.{eqb-true, eqb-false, eq-eqb, leb-true, le-leb}
+use Rattle.folds.specs.Folds.{_and_}
+use Rattle.folds.proofs.Tests.{which, and-left, and-right, and-both}
+use Rattle.circuit.specs.declared.Entry.{Entry}
+use Rattle.circuit.specs.Tools.{isEmpty}
+use Rattle.circuit.specs.Circuit.{Circuit}
+use Rattle.circuit.specs.declared.Ending.the-variants.{Found}
+use Rattle.circuit.specs.Survey.{front, frontSize}
+use Rattle.circuit.specs.Run.{move, Ended, stop, run}
+use Rattle.circuit.proofs.Trace.{run-found, run-spent, run-step}
+use Rattle.map.specs.Map.{gateCount, circuit}
+use Rattle.map.specs.Check.{firstFailed, contentsTests, bodiesTests, mapTests}
+use Rattle.map.proofs.Laws.{past, no-test, none-failed, passed-before}
+use Rattle.map.proofs.Answers.{behind-accepted}
+use Rattle.state.specs.State.{configurationTests}
+use Rattle.state.proofs.Meaning.{behind}
+use Rattle.survey.specs.Survey.{startTests}
+use Rattle.survey.proofs.Starts.{behind-start, start-of, of-start}
+use Rattle.search.specs.Tape.{entries, tapeTest}
+use Rattle.search.specs.Run.{tapeTests, runTests, acceptedBy, numberOf, frontOf, ran, runningBy, running, Room, Runnable, RunAccepts, RunTestsInOrder, RunDeclines}
+use Rattle.search.proofs.Tapes.{kinds-of, of-kinds}
+
+-- how a run on a circuit ends: it is never refused, and the front that its ending carries is that of the last configuration
+pub record Ends (c : Circuit) (r : Ended) : Type 0 where
+  pub accepted : acceptedBy (r .outcome .ending) ≡ true
+  pub number : numberOf (r .outcome .ending) ≡ 0
+  pub front : frontOf (r .outcome .ending) ≡ frontSize c (r .last)
+
+ends-found : (c : Circuit) (s : List ℕ) → isEmpty (front c s) ≡ true → Ends c (stop Found s)
+unfolding frontSize
+ends-found c s q = record { accepted = refl; number = refl; front = sym (none-of (front c s) q) }
+  where
+    none-of : (xs : List ℕ) → isEmpty xs ≡ true → length xs ≡ 0
+    none-of [] e = refl
+    none-of (x ∷ xs) e = absurd (false≢true e)
+
+pub run-ends : (c : Circuit) (s : List ℕ) (es : List Entry) → Ends c (run c s es)
+run-ends c s [] = elim (which (isEmpty (front c s))) [
+  | inl q ↦ rw (run-found c s [] q) (ends-found c s q)
+  | inr q ↦ rw (run-spent c s q) (record { accepted = refl; number = refl; front = refl })
+]
+run-ends c s (e ∷ es) = elim (which (isEmpty (front c s))) [
+  | inl q ↦ rw (run-found c s (e ∷ es) q) (ends-found c s q)
+  | inr q ↦ (let r = run-ends c (move c s e .next) es in rw (run-step c s e es q) (record { accepted = r .accepted; number = r .number; front = r .front }))
+]
+
+-- test 14
+module _ (m work ans : List ℕ) where
+  abbrev roomTest : Bool
+  roomTest = leb (gateCount m) (length work) and leb (gateCount m) (length ans)
+
+  room-of : roomTest ≡ true → Room m work ans
+  room-of e = record { work-room = leb-true _ _ (and-left _ _ e); answer-room = leb-true _ _ (and-right _ _ e) }
+
+  pub of-room : Room m work ans → roomTest ≡ true
+  of-room r = and-both _ _ (le-leb _ _ (r .work-room)) (le-leb _ _ (r .answer-room))
+
+module _ (m s tape work ans : List ℕ) where
+  abbrev number : ℕ
+  number = firstFailed (mapTests m ++ runTests m s tape work ans)
+
+  pub written : number ≡ 0 → running m s tape work ans ≡ ran (circuit m) (run (circuit m) s (entries tape)) work ans
+  unfolding running runningBy
+  written e = rw (eq-eqb number 0 e)
+
+  pub none : acceptedBy (running m s tape work ans .outcome .ending) ≡ true → number ≡ 0
+  unfolding running runningBy
+  none e = elim (which (eqb number 0)) [
+    | inl q ↦ eqb-true number 0 q
+    | inr q ↦ absurd (false≢true (rw q at e))
+  ]
+
+  accepted : number ≡ 0 → acceptedBy (running m s tape work ans .outcome .ending) ≡ true
+  accepted e = rw (written e) (run-ends (circuit m) s (entries tape) .accepted)
+
+  -- what each test says
+  pub runnable : number ≡ 0 → Runnable m s tape work ans
+  unfolding runTests tapeTests tapeTest
+  runnable n =
+      let (v, t) = behind m (runTests m s tape work ans) n in
+      let k = passed-before (startTests m s) _ t in
+      let t12 = none-failed 11 _ _ (sym (behind-start m s _ k) ∙ t) in
+      let t13 = none-failed 12 _ _ (t12 .1) in
+      let whole = eqb-true _ _ (and-left _ _ (t12 .0)) in
+      record {
+        accepted = v;
+        start = start-of m s k;
+        whole-entries = whole;
+        not-longer = leb-true _ _ (and-right _ _ (t12 .0));
+        kinds = kinds-of tape whole (t13 .0);
+        room = room-of m work ans (none-failed 13 _ _ (t13 .1) .0);
+      }
+
+  pub of-runnable : Runnable m s tape work ans → number ≡ 0
+  unfolding runTests tapeTests tapeTest
+  of-runnable a =
+      behind-accepted m _ (a .accepted)
+      ∙ behind-start m s _ (of-start m s (a .start))
+      ∙ past _ _ _ (and-both _ _ (eq-eqb _ _ (a .whole-entries)) (le-leb _ _ (a .not-longer)))
+      ∙ past _ _ _ (of-kinds tape (a .whole-entries) (a .kinds))
+      ∙ past _ _ _ (of-room m work ans (a .room))
+      ∙ no-test
+
+pub run-accepts : RunAccepts
+run-accepts m s tape work ans = (
+  λ e. runnable m s tape work ans (none m s tape work ans e),
+  λ a. accepted m s tape work ans (of-runnable m s tape work ans a),
+)
+
+pub run-tests-in-order : RunTestsInOrder
+unfolding mapTests contentsTests bodiesTests runTests startTests configurationTests tapeTests
+run-tests-in-order m s tape work ans = refl
+
+pub run-declines : RunDeclines
+unfolding running runningBy
+run-declines m s tape work ans e = elim (which (eqb (number m s tape work ans) 0)) [
+  | inl q ↦ absurd (true≢false (sym (accepted m s tape work ans (eqb-true (number m s tape work ans) 0 q)) ∙ e))
+  | inr q ↦ rw q (record { numbered = (eqb-false (number m s tape work ans) 0 q, refl); zeros = (refl, (refl, refl)); untouched = (refl, (refl, refl)) })
+]

@@ -1,0 +1,126 @@
+-- Document 00's demands 2 and 3, about Run on bytes: about `running`, which Run's contract cites. Assumes nothing.
+use Prim.Native.Nat.{ℕ, _*_, _/_, _%_, _≤_, _<_}
+use mathlib.Core.Path.{_≡_}
+use mathlib.Core.Bool.{true}
+use mathlib.Core.List.{List, [], _∷_, List·Memᴰ as In}
+use lib.ListN.{length, getD, take, drop}
+use Rattle.circuit.specs.declared.Ending.the-variants.{Found}
+use Rattle.circuit.specs.declared.Entry.{Entry}
+use Rattle.circuit.specs.Evaluate.{KeepsCodes, differ}
+use Rattle.circuit.specs.Survey.{survey, frontSize}
+use Rattle.circuit.specs.Promise.{Answered, config, Promised, Demand2OnCircuits}
+use Rattle.map.specs.Map.{gateCount, circuit}
+use Rattle.map.specs.Check.{verdict}
+use Rattle.state.specs.State.{marking}
+use Rattle.survey.specs.Survey.{SurveyWrites}
+use Rattle.search.specs.Tape.{entryAt, entries}
+use Rattle.search.specs.Move.{MoveWrites}
+use Rattle.search.specs.Run.{Running, acceptedBy, numberOf, frontOf, running, Room}
+
+-- "Such a configuration is a satisfying assignment.": one to which Mark says yes
+abbrev pub Satisfies : List ℕ → List ℕ → Type 0
+Satisfies m a = marking m a .yes ≡ true
+
+-- ---- demand 2
+
+-- What stands in the answer memory after Found, where `last` is the last configuration: its first bytes, one per gate, are 'inputs in the cone keep their
+-- values, all other inputs are 0, other gates are evaluated', and Mark says yes to them: they obey every gate and show every code. The surplus stands.
+pub record FoundWrites (m last ans after : List ℕ) : Type 0 where
+  pub answered : Answered (circuit m) last (take (gateCount m) after)
+  pub marked : Satisfies m (take (gateCount m) after)
+  pub surplus : drop (gateCount m) after ≡ drop (gateCount m) ans
+  pub long : length after ≡ length ans
+
+-- Of an accepted call.
+--     entries-are           the tape is its entries, four bytes each,
+--     entry-is              in that order
+--     promised              the record and the last configuration are those of document 01's run: `Promised` says what that is, with the configurations
+--                           c 0, the start, c 1, after the first entry, and so on
+--     number, front         an accepted call's number is 0, and its front that of the last configuration: 0 for Found, and "Spent also carries the front's size"
+--     surveyed              "the first bytes of the work memory, one per gate, are its survey"; the surplus stands
+--     found, not-found      what the answer memory holds
+pub record RunMeans (m s tape work ans : List ℕ) (r : Running) : Type 0 where
+  pub start : KeepsCodes (circuit m) s
+  pub entries-are : length tape ≡ 4 * length (entries tape)
+  pub entry-is : (d : Entry) (i : ℕ) → 4 * i < length tape → getD (entries tape) i d ≡ entryAt tape (4 * i)
+  pub promised : Promised (circuit m) s (entries tape) (config (circuit m) s (entries tape)) (record { outcome = r .outcome; last = r .configuration })
+  pub number : numberOf (r .outcome .ending) ≡ 0
+  pub front : frontOf (r .outcome .ending) ≡ frontSize (circuit m) (r .configuration)
+  pub surveyed : take (gateCount m) (r .work) ≡ survey (circuit m) (r .configuration)
+  pub work-surplus : drop (gateCount m) (r .work) ≡ drop (gateCount m) work
+  pub work-long : length (r .work) ≡ length work
+  pub found : r .outcome .ending ≡ Found → FoundWrites m (r .configuration) ans (r .answer)
+  pub not-found : ¬ (r .outcome .ending ≡ Found) → r .answer ≡ ans
+
+-- "Cone, front and interest set are those of source document 001, save two differences that document 01 marks. A run makes the moves of document 01,
+-- reports as moves and flips the count of entries done and the sum of values they turned, and ends Found exactly when its front becomes empty within the
+-- tape; the state it then gives obeys every gate and shows every code."
+pub record Demand2 : Type 0 where
+  pub notions : Demand2OnCircuits
+  pub surveys : SurveyWrites
+  pub moves : MoveWrites
+  pub runs : (m s tape work ans : List ℕ) → acceptedBy (running m s tape work ans .outcome .ending) ≡ true
+      → RunMeans m s tape work ans (running m s tape work ans)
+
+-- "Work and answer memory may hold any bytes and have any length that number 14 lets through: ending, moves and flips are the same for all of them.",
+-- and so is the configuration that is left.
+abbrev pub SameForAllMemories : Type 0
+SameForAllMemories =
+    (m s tape work ans work' ans' : List ℕ) → Room m work ans → Room m work' ans'
+    → (running m s tape work ans .outcome ≡ running m s tape work' ans' .outcome)
+    × (running m s tape work ans .configuration ≡ running m s tape work' ans' .configuration)
+
+-- ---- demand 3
+
+abbrev pub AreBytes : List ℕ → Type 0
+AreBytes bs = (b : ℕ) → In b bs → b < 256
+
+-- "A list of front draws is a list of u16."
+abbrev pub AreDraws : List ℕ → Type 0
+AreDraws ds = (d : ℕ) → In d ds → d < 65536
+
+-- "a kind and an option byte for each draw"
+pub record Way : Type 0 where
+  pub kind : ℕ
+  pub option : ℕ
+
+-- "no kind among them greedy": down or up
+pub record Plain (w : Way) : Type 0 where
+  pub kind-is : (1 ≤ w .kind) × (w .kind ≤ 2)
+  pub option-is : w .option < 256
+
+-- "the tape whose entries are these draws in that order, each with its two bytes, and no other entry; an empty list gives the empty tape"
+abbrev pub tapeOf : List ℕ → List Way → List ℕ
+tapeOf [] ws = []
+tapeOf (d ∷ ds) [] = []
+tapeOf (d ∷ ds) (w ∷ ws) = d % 256 ∷ d / 256 ∷ w .kind ∷ w .option ∷ tapeOf ds ws
+
+-- a run "ends Found and reports at most that number of moves and at most that number of flips"
+pub record FoundWithin (n : ℕ) (r : Running) : Type 0 where
+  pub found : r .outcome .ending ≡ Found
+  pub moves : r .outcome .moves ≤ n
+  pub flips : r .outcome .flips ≤ n
+
+-- "kind and option bytes exist, no kind among them greedy, with which document 01's run on exactly those draws ends Found ..": the same bytes for all
+-- memories
+pub record Finishing (m s ds : List ℕ) (n : ℕ) : Type 0 where
+  pub ways : List Way
+  pub one-each : length ways ≡ length ds
+  pub plain : (w : Way) → In w ways → Plain w
+  pub bytes : AreBytes (tapeOf ds ways)
+  pub run-finds : (work ans : List ℕ) → Room m work ans → FoundWithin n (running m s (tapeOf ds ways) work ans)
+
+-- From a start s.
+--     only, some-tape    "some tape ends Found exactly when some state satisfies the map"
+--     bounded            "For every such start and every satisfying assignment of all gates, count the gates where the two differ. For every list of
+--                        front draws of that length, .."
+pub record Demand3From (m s : List ℕ) : Type 0 where
+  pub only : (tape work ans : List ℕ) → running m s tape work ans .outcome .ending ≡ Found → (a : List ℕ) × Satisfies m a
+  pub some-tape : (a : List ℕ) → Satisfies m a
+      → (tape : List ℕ) × AreBytes tape × ((work ans : List ℕ) → Room m work ans → running m s tape work ans .outcome .ending ≡ Found)
+  pub bounded : (a : List ℕ) → Satisfies m a → (ds : List ℕ) → AreDraws ds → length ds ≡ differ (circuit m) s a
+      → Finishing m s ds (differ (circuit m) s a)
+
+-- "From every start that keeps an accepted map's codes"
+abbrev pub Demand3 : Type 0
+Demand3 = (m s : List ℕ) → verdict m ≡ 0 → KeepsCodes (circuit m) s → Demand3From m s

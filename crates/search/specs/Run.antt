@@ -1,0 +1,131 @@
+-- Document 01's Run, on bytes. Assumes nothing.
+use Prim.Native.Nat.{ℕ, _+_, _*_, _%_, _<_, _≤_}
+use mathlib.Core.Path.{_≡_}
+use mathlib.Core.Logic.{_↔_}
+use mathlib.Core.Bool.{Bool, true, false, cond}
+use mathlib.Core.List.{List, [], _∷_, _++_, map}
+use lib.ListN.{length, getD}
+use lib.Dec.{eqb, leb}
+use Rattle.folds.specs.Folds.{_and_}
+use Rattle.circuit.specs.declared.Ending.{Ending}
+use Rattle.circuit.specs.declared.Ending.the-variants.{Found, Spent, Refused}
+use Rattle.circuit.specs.declared.Outcome.{Outcome}
+use Rattle.circuit.specs.Circuit.{Circuit}
+use Rattle.circuit.specs.Evaluate.{KeepsCodes}
+use Rattle.circuit.specs.Survey.{survey}
+use Rattle.circuit.specs.Run.{Ended, run, answer}
+use Rattle.map.specs.Map.{gateCount, circuit}
+use Rattle.map.specs.Check.{firstFailed, mapTests, verdict}
+use Rattle.state.specs.State.{over}
+use Rattle.survey.specs.Survey.{startTests}
+use Rattle.search.specs.Tape.{entries, tapeTest, kindsTest}
+
+-- ---- the tests
+
+-- "12. The tape's length isn't a multiple of 4, is above 65,532", 13, and "14. .. work or answer memory is shorter than the gate count."
+unfoldable pub tapeTests : List ℕ → List ℕ → List ℕ → List ℕ → List (ℕ × Bool)
+tapeTests m tape work ans = (12, tapeTest tape) ∷ (13, kindsTest tape) ∷ (14, leb (gateCount m) (length work) and leb (gateCount m) (length ans)) ∷ []
+
+-- Run's tests behind the map's: 9 to 11, and these
+unfoldable pub runTests : List ℕ → List ℕ → List ℕ → List ℕ → List ℕ → List (ℕ × Bool)
+runTests m s tape work ans = startTests m s ++ tapeTests m tape work ans
+
+-- ---- Run
+
+-- "A run's answer is one record: its ending, its moves and its flips", and the three lent memories after the call
+pub record Running : Type 0 where
+  pub outcome : Outcome
+  pub configuration : List ℕ
+  pub work : List ℕ
+  pub answer : List ℕ
+
+-- Document 01's number and values of each ending: whether the call is accepted, the number that declines it, and the front's size that Spent carries
+abbrev pub acceptedBy : Ending → Bool
+acceptedBy Found = true
+acceptedBy (Spent f) = true
+acceptedBy (Refused n) = false
+
+abbrev pub numberOf : Ending → ℕ
+numberOf Found = 0
+numberOf (Spent f) = 0
+numberOf (Refused n) = n
+
+abbrev pub frontOf : Ending → ℕ
+frontOf Found = 0
+frontOf (Spent f) = f
+frontOf (Refused n) = 0
+
+-- "Found writes the answer memory .. Spent leaves it untouched.": the answer memory after an ending, where x is what Found writes
+abbrev pub answered : Ending → List ℕ → List ℕ → List ℕ
+answered Found x ans = over x ans
+answered (Spent f) x ans = ans
+answered (Refused n) x ans = ans
+
+-- "After either ending the configuration is the last one and the first bytes of the work memory, one per gate, are its survey."
+abbrev pub ran : Circuit → Ended → List ℕ → List ℕ → Running
+ran c r work ans = record {
+  outcome = r .outcome;
+  configuration = r .last;
+  work = over (survey c (r .last)) work;
+  answer = answered (r .outcome .ending) (answer c (r .last)) ans;
+}
+
+-- "the other numbers of its answer, as Run's moves and flips, are then 0"
+abbrev pub declined : ℕ → Outcome
+declined n = record { ending = Refused n; moves = 0; flips = 0 }
+
+-- what a call with this number gives and leaves; declined, it "leaves all lent memory untouched"
+unfoldable pub runningBy : ℕ → List ℕ → List ℕ → List ℕ → List ℕ → List ℕ → Running
+runningBy n m s tape work ans =
+    cond (eqb n 0)
+    (ran (circuit m) (run (circuit m) s (entries tape)) work ans)
+    (record { outcome = declined n; configuration = s; work = work; answer = ans })
+
+unfoldable pub running : List ℕ → List ℕ → List ℕ → List ℕ → List ℕ → Running
+running m s tape work ans = runningBy (firstFailed (mapTests m ++ runTests m s tape work ans)) m s tape work ans
+
+-- ---- which calls are accepted
+
+-- number 14 lets these memories through
+pub record Room (m work ans : List ℕ) : Type 0 where
+  pub work-room : gateCount m ≤ length work
+  pub answer-room : gateCount m ≤ length ans
+
+-- Run is accepted exactly for accepted maps, starts that keep the codes, tapes of whole entries, at most 16,383 of them and each of a kind up to 2, and
+-- memories that are long enough.
+pub record Runnable (m s tape work ans : List ℕ) : Type 0 where
+  pub accepted : verdict m ≡ 0
+  pub start : KeepsCodes (circuit m) s
+  pub whole-entries : length tape % 4 ≡ 0
+  pub not-longer : length tape ≤ 65532
+  pub kinds : (i : ℕ) → 4 * i < length tape → getD tape (4 * i + 2) 0 ≤ 2
+  pub room : Room m work ans
+
+abbrev pub RunAccepts : Type 0
+RunAccepts = (m s tape work ans : List ℕ) → (acceptedBy (running m s tape work ans .outcome .ending) ≡ true) ↔ Runnable m s tape work ans
+
+-- Its tests are those of numbers 1 to 14, in this order.
+abbrev pub RunTestsInOrder : Type 0
+RunTestsInOrder =
+    (m s tape work ans : List ℕ)
+    → map (λ (t : ℕ × Bool). t .0) (mapTests m ++ runTests m s tape work ans) ≡ 1 ∷ 2 ∷ 3 ∷ 4 ∷ 5 ∷ 6 ∷ 7 ∷ 8 ∷ 9 ∷ 10 ∷ 11 ∷ 12 ∷ 13 ∷ 14 ∷ []
+
+-- Declined, it gives the number of the first that fails, "leaves all lent memory untouched; the other numbers of its answer .. are then 0".
+pub record Declined (s work ans : List ℕ) (n : ℕ) (r : Running) : Type 0 where
+  pub numbered : (¬ (n ≡ 0)) × (numberOf (r .outcome .ending) ≡ n)
+  pub zeros : (r .outcome .moves ≡ 0) × ((r .outcome .flips ≡ 0) × (frontOf (r .outcome .ending) ≡ 0))
+  pub untouched : (r .configuration ≡ s) × ((r .work ≡ work) × (r .answer ≡ ans))
+
+abbrev pub RunDeclines : Type 0
+RunDeclines = (m s tape work ans : List ℕ) → acceptedBy (running m s tape work ans .outcome .ending) ≡ false
+    → Declined s work ans (firstFailed (mapTests m ++ runTests m s tape work ans)) (running m s tape work ans)
+
+-- ---- for inner functions
+
+-- Run behind the map's tests
+unfoldable pub configurationRunning : List ℕ → List ℕ → List ℕ → List ℕ → List ℕ → Running
+configurationRunning m s tape work ans = runningBy (firstFailed (runTests m s tape work ans)) m s tape work ans
+
+-- a run's record with the memories
+abbrev pub gave : Outcome → List ℕ → List ℕ → List ℕ → Running
+gave o s w a = record { outcome = o; configuration = s; work = w; answer = a }
