@@ -1,16 +1,21 @@
 //! Test cases: the frame they are written in (FORMAT.md), a fixed list with
 //! expected lines written by hand, and random cases from a seed.
 
-use crate::engine::{self, AND, DOWN, GREEDY, INPUT, NOT, OR, UP, XOR};
+mod runs;
+
+use crate::engine::{self, Ending, AND, DOWN, GREEDY, INPUT, NOT, OR, UP, XOR};
 
 /// "A case file has at most 524,288 bytes."
 pub const FILE_LIMIT: usize = 524_288;
 /// Files of random cases stay smaller.
-pub const RANDOM_LIMIT: usize = 262_144;
-/// "room is at most 2,048."
+pub const RANDOM_LIMIT: usize = 500_000;
+/// "room and answer are at most 2,048."
 pub const ROOM_LIMIT: usize = 2_048;
-/// "The memory of 'e', 's' and 'v' is `room` bytes, each 170 (0xAA) before the
-/// call."
+/// "Tape length times `times` is at most 66,000, and so is the whole input of
+/// 'p'."
+pub const LENT_LIMIT: usize = 66_000;
+/// "The memories of 'e', 's', 'v' and 'r' are `room` and `answer` bytes, each
+/// 170 (0xAA) before the call."
 pub const PATTERN: u8 = 170;
 
 /// One framed case.
@@ -20,8 +25,13 @@ pub struct Case {
     pub map: Vec<u8>,
     pub body: Vec<u8>,
     pub room: usize,
-    /// The lent entry of a move, of any length; nothing for the other ops.
+    /// The lent entry of a move, of any length, or what the tape of ops 'r' and
+    /// 'p' repeats; nothing for the other ops.
     pub tape: Vec<u8>,
+    /// How often the tape is repeated, for 'r' and 'p'; 0 for the other ops.
+    pub times: usize,
+    /// The length of the answer memory of a run; 0 for the other ops.
+    pub answer: usize,
 }
 
 /// A case of the fixed list with its name and its line, written by hand.
@@ -40,25 +50,53 @@ fn push16(bytes: &mut Vec<u8>, number: usize) {
     bytes.push((number / 256) as u8);
 }
 
-/// The bytes before the map: "tape u32: length of the tape, for op 'v' alone".
+/// The bytes before the map: "tape u32: length of the tape, for ops 'v', 'r' and
+/// 'p' alone", "times u16" and "answer u16" "for ops 'r' and 'p' alone".
 fn head(op: u8) -> usize {
-    if op == b'v' {
-        11
-    } else {
-        7
+    match op {
+        b'v' => 11,
+        b'r' | b'p' => 15,
+        _ => 7,
     }
 }
 
 impl Case {
+    /// A case with no memory and no tape.
+    fn plain(op: u8, map: &[u8], body: &[u8]) -> Case {
+        Case { op, map: map.to_vec(), body: body.to_vec(), room: 0, tape: vec![], times: 0, answer: 0 }
+    }
+
+    /// A run: the tape and how often, the lengths of work and answer memory.
+    pub fn run(map: &[u8], start: &[u8], tape: (&[u8], usize), rooms: (usize, usize)) -> Case {
+        let plain = Case::plain(b'r', map, start);
+        Case { room: rooms.0, tape: tape.0.to_vec(), times: tape.1, answer: rooms.1, ..plain }
+    }
+
+    /// An input of the program that is right as far as lengths go.
+    pub fn program(map: &[u8], start: &[u8], tape: (&[u8], usize)) -> Case {
+        let lengths = [map.len(), start.len(), tape.0.len() * tape.1];
+        Case::input(&[&lengths_of(lengths)[..], map].concat(), start, tape)
+    }
+
+    /// An input of the program from its pieces, no lengths put before them.
+    pub fn input(map: &[u8], body: &[u8], tape: (&[u8], usize)) -> Case {
+        let plain = Case::plain(b'p', map, body);
+        Case { tape: tape.0.to_vec(), times: tape.1, ..plain }
+    }
+
     /// The bytes of the case in a case file.
     pub fn framed(&self) -> Vec<u8> {
         let mut bytes = vec![self.op];
         push16(&mut bytes, self.map.len());
         push16(&mut bytes, self.body.len());
         push16(&mut bytes, self.room);
-        if self.op == b'v' {
+        if head(self.op) >= 11 {
             push16(&mut bytes, self.tape.len() % 65_536);
             push16(&mut bytes, self.tape.len() / 65_536);
+        }
+        if head(self.op) == 15 {
+            push16(&mut bytes, self.times);
+            push16(&mut bytes, self.answer);
         }
         bytes.extend_from_slice(&self.map);
         bytes.extend_from_slice(&self.body);
@@ -69,6 +107,40 @@ impl Case {
     pub fn size(&self) -> usize {
         head(self.op) + self.map.len() + self.body.len() + self.tape.len()
     }
+
+    /// "The tape lent to 'r' is the tape's bytes, `times` times over."
+    pub fn lent_tape(&self) -> Vec<u8> {
+        self.tape.repeat(self.times)
+    }
+
+    /// "What the program gets on standard input is, for 'p', the map's bytes,
+    /// then the body's, then the tape's `times` times over."
+    pub fn whole_input(&self) -> Vec<u8> {
+        [&self.map[..], &self.body, &self.lent_tape()].concat()
+    }
+
+    /// Whether the numbers are ones that the format allows for the op.
+    fn is_of_the_format(&self) -> bool {
+        let lent = self.tape.len() * self.times;
+        match self.op {
+            b'c' => self.body.is_empty() && self.room == 0,
+            b'k' => self.body.len() == 2 && self.room == 0,
+            b'e' | b's' | b'v' => self.room <= ROOM_LIMIT,
+            b'm' => self.room == 0,
+            b'r' => self.room <= ROOM_LIMIT && self.answer <= ROOM_LIMIT && lent <= LENT_LIMIT,
+            b'p' => self.room == 0 && self.answer == 0 && self.map.len() + self.body.len() + lent <= LENT_LIMIT,
+            _ => false,
+        }
+    }
+}
+
+/// The three lengths that an input of the program begins with.
+fn lengths_of(three: [usize; 3]) -> Vec<u8> {
+    let mut bytes = Vec::new();
+    for length in three {
+        push16(&mut bytes, length);
+    }
+    bytes
 }
 
 /// The bytes of a case file.
@@ -95,7 +167,8 @@ pub fn parse(bytes: &[u8]) -> Result<Vec<Case>, String> {
             break;
         }
         let room = number(5);
-        let tape_length = if op == b'v' { number(7) + 65_536 * number(9) } else { 0 };
+        let tape_length = if head(op) >= 11 { number(7) + 65_536 * number(9) } else { 0 };
+        let (times, answer) = if head(op) == 15 { (number(11), number(13)) } else { (0, 0) };
         let map_at = at + head(op);
         let body_at = map_at + number(1);
         let tape_at = body_at + number(3);
@@ -107,17 +180,11 @@ pub fn parse(bytes: &[u8]) -> Result<Vec<Case>, String> {
         let body = bytes[body_at..tape_at].to_vec();
         let tape = bytes[tape_at..end].to_vec();
         at = end;
-        let shape = match op {
-            b'c' => body.is_empty() && room == 0,
-            b'k' => body.len() == 2 && room == 0,
-            b'e' | b's' | b'v' => room <= ROOM_LIMIT,
-            b'm' => room == 0,
-            _ => false,
-        };
-        if !shape {
+        let case = Case { op, map, body, room, tape, times, answer };
+        if !case.is_of_the_format() {
             return Err(format!("case {} isn't of the format", cases.len()));
         }
-        cases.push(Case { op, map, body, room, tape });
+        cases.push(case);
     }
     Ok(cases)
 }
@@ -134,12 +201,31 @@ fn with_memory(word: String, memory: &[u8]) -> String {
 }
 
 /// "conf is the configuration after the call, `-` where it is empty": in
-/// hexadecimal like the memory, since a declined one may have any bytes.
+/// hexadecimal like the memory, since a declined one may have any bytes. The
+/// memories of a run are written in the same way.
 fn with_configuration(word: String, configuration: &[u8]) -> String {
     if configuration.is_empty() {
         return word + " -";
     }
     with_memory(word, configuration)
+}
+
+/// "`FOUND moves flips conf work answer`, `SPENT moves flips front conf work
+/// answer` or `REFUSED n conf work answer`"
+fn run_line(case: &Case) -> String {
+    let mut configuration = case.body.clone();
+    let mut work = vec![PATTERN; case.room];
+    let mut answer = vec![PATTERN; case.answer];
+    let outcome = engine::run(&case.map, &mut configuration, &case.lent_tape(), &mut work, &mut answer);
+    let mut line = match outcome.ending {
+        Ending::Found => format!("FOUND {} {}", outcome.moves, outcome.flips),
+        Ending::Spent(front) => format!("SPENT {} {} {front}", outcome.moves, outcome.flips),
+        Ending::Refused(number) => format!("REFUSED {number}"),
+    };
+    for memory in [configuration, work, answer] {
+        line = with_configuration(line, &memory);
+    }
+    line
 }
 
 /// The line that the independent engine gives for a case, without line feed.
@@ -185,6 +271,8 @@ pub fn answer(case: &Case) -> String {
             };
             with_memory(with_configuration(word, &configuration), &memory)
         }
+        b'r' => run_line(case),
+        b'p' => engine::program(&case.whole_input()),
         other => panic!("no such op: {other}"),
     }
 }
@@ -217,7 +305,7 @@ fn raw(gates: &[(u8, u8, u16)], children: &[u16], codes: &[(u16, u8, u8)]) -> Ve
 }
 
 /// A map's bytes from kinds with children, and codes; nothing is tested.
-fn build(gates: &[(u8, Vec<u16>)], codes: &[(u16, u8)]) -> Vec<u8> {
+pub fn build(gates: &[(u8, Vec<u16>)], codes: &[(u16, u8)]) -> Vec<u8> {
     let mut records = Vec::new();
     let mut all = Vec::new();
     for (kind, children) in gates {
@@ -350,29 +438,27 @@ impl List {
     }
 
     fn check(&mut self, name: &str, map: &[u8], expected: &str) {
-        let case = Case { op: b'c', map: map.to_vec(), body: vec![], room: 0, tape: vec![] };
+        let case = Case::plain(b'c', map, &[]);
         self.add(&format!("check {name}"), case, expected);
     }
 
     fn children(&mut self, name: &str, map: &[u8], gate: u16, expected: &str) {
-        let body = vec![(gate % 256) as u8, (gate / 256) as u8];
-        let case = Case { op: b'k', map: map.to_vec(), body, room: 0, tape: vec![] };
+        let case = Case::plain(b'k', map, &[(gate % 256) as u8, (gate / 256) as u8]);
         self.add(&format!("children {name}"), case, expected);
     }
 
     fn evaluate(&mut self, name: &str, map: &[u8], row: &[u8], room: usize, expected: &str) {
-        let case = Case { op: b'e', map: map.to_vec(), body: row.to_vec(), room, tape: vec![] };
+        let case = Case { room, ..Case::plain(b'e', map, row) };
         self.add(&format!("evaluate {name}"), case, expected);
     }
 
     fn mark(&mut self, name: &str, map: &[u8], configuration: &[u8], expected: &str) {
-        let body = configuration.to_vec();
-        let case = Case { op: b'm', map: map.to_vec(), body, room: 0, tape: vec![] };
+        let case = Case::plain(b'm', map, configuration);
         self.add(&format!("mark {name}"), case, expected);
     }
 
     fn survey(&mut self, name: &str, map: &[u8], configuration: &[u8], room: usize, expected: &str) {
-        let case = Case { op: b's', map: map.to_vec(), body: configuration.to_vec(), room, tape: vec![] };
+        let case = Case { room, ..Case::plain(b's', map, configuration) };
         self.add(&format!("survey {name}"), case, expected);
     }
 
@@ -385,8 +471,7 @@ impl List {
     }
 
     fn make_move(&mut self, name: &str, map: &[u8], configuration: &[u8], entry: &[u8], room: usize, expected: &str) {
-        let body = configuration.to_vec();
-        let case = Case { op: b'v', map: map.to_vec(), body, room, tape: entry.to_vec() };
+        let case = Case { room, tape: entry.to_vec(), ..Case::plain(b'v', map, configuration) };
         self.add(&format!("move {name}"), case, expected);
     }
 
@@ -422,6 +507,19 @@ const ADDER: [(u8, &[u16]); 8] = [
 /// code from byte 64, 68 bytes.
 pub fn adder() -> Vec<u8> {
     map(&ADDER, &[(7, 1)])
+}
+
+/// P9's map: 0 input, 1 NOT(0), 2 AND(0,1), code 2 = 1.
+fn p9() -> Vec<u8> {
+    map(&[(INPUT, &[]), (NOT, &[0]), (AND, &[0, 1])], &[(2, 1)])
+}
+
+/// P11's map: 0, 1 inputs, 2 NOT(0), 3 AND(0,2), 4 OR(1,3), code 4 = 1.
+fn p11() -> Vec<u8> {
+    map(
+        &[(INPUT, &[]), (INPUT, &[]), (NOT, &[0]), (AND, &[0, 2]), (OR, &[1, 3])],
+        &[(4, 1)],
+    )
 }
 
 /// Inputs that stand after other gates: 0 input, 1 NOT(0), 2 input,
@@ -535,6 +633,24 @@ fn deep() -> Vec<u8> {
     )
 }
 
+/// 8 OR(2,3,4,5,6,7), coded 1, over inputs, an AND, a XOR and a NOT.
+fn six() -> Vec<u8> {
+    map(
+        &[
+            (INPUT, &[]),
+            (INPUT, &[]),
+            (AND, &[0, 1]),
+            (INPUT, &[]),
+            (XOR, &[0, 1]),
+            (INPUT, &[]),
+            (NOT, &[1]),
+            (INPUT, &[]),
+            (OR, &[2, 3, 4, 5, 6, 7]),
+        ],
+        &[(8, 1)],
+    )
+}
+
 /// The most of everything: 8 inputs and 1,016 coded ANDs of all eight.
 fn full() -> Vec<u8> {
     let mut gates = vec![(INPUT, vec![]); 8];
@@ -570,6 +686,7 @@ pub fn fixed() -> Vec<Named> {
     fixed_move_large(&mut list);
     fixed_move_refused(&mut list);
     fixed_move_precedence(&mut list);
+    runs::fixed_runs(&mut list);
     list.0
 }
 
@@ -579,19 +696,8 @@ fn fixed_check_accepted(l: &mut List) {
     l.check("adder with two codes", &map(&ADDER, &[(6, 0), (7, 1)]), "OK 8 3 10 2");
     l.check("one input, no code (P10)", &inputs(1, &[]), "OK 1 1 0 0");
     l.check("one coded input", &inputs(1, &[(0, 1)]), "OK 1 1 0 1");
-    l.check(
-        "P9's map",
-        &map(&[(INPUT, &[]), (NOT, &[0]), (AND, &[0, 1])], &[(2, 1)]),
-        "OK 3 1 3 1",
-    );
-    l.check(
-        "P11's map",
-        &map(
-            &[(INPUT, &[]), (INPUT, &[]), (NOT, &[0]), (AND, &[0, 2]), (OR, &[1, 3])],
-            &[(4, 1)],
-        ),
-        "OK 5 2 5 1",
-    );
+    l.check("P9's map", &p9(), "OK 3 1 3 1");
+    l.check("P11's map", &p11(), "OK 5 2 5 1");
     l.check("inputs after other gates", &mixed(), "OK 6 3 5 0");
     l.check(
         "a coded input that is nobody's child",
@@ -995,7 +1101,7 @@ fn fixed_mark(l: &mut List) {
     l.mark("one input, code 1, at 0", &inputs(1, &[(0, 1)]), &[0], "NO");
     l.mark("one input, code 0, at 0", &inputs(1, &[(0, 0)]), &[0], "YES");
     l.mark("one input, code 0, at 1", &inputs(1, &[(0, 0)]), &[1], "NO");
-    let p9 = map(&[(INPUT, &[]), (NOT, &[0]), (AND, &[0, 1])], &[(2, 1)]);
+    let p9 = p9();
     l.mark("P9's map can't be satisfied, 0 1 0", &p9, &digits("010"), "NO");
     l.mark("P9's map can't be satisfied, 1 1 1", &p9, &digits("111"), "NO");
     let wide = wide();
@@ -1047,14 +1153,11 @@ fn fixed_survey(l: &mut List) {
     l.surveyed("A after up (P5), C with gate 5 turned (P7)", &adder, "00100101", 1, 5, "44440701");
     l.surveyed("configuration C", &adder, "00100001", 1, 7, "44444407");
     l.surveyed("C with gate 4 turned (P6)", &adder, "00101001", 1, 3, "44007001");
-    let p9 = map(&[(INPUT, &[]), (NOT, &[0]), (AND, &[0, 1])], &[(2, 1)]);
+    let p9 = p9();
     l.surveyed("P9's start", &p9, "001", 1, 3, "447");
     l.surveyed("P9 after one down: a NOT in the front", &p9, "111", 1, 2, "571");
     l.surveyed("P9 after two downs", &p9, "011", 1, 3, "447");
-    let p11 = map(
-        &[(INPUT, &[]), (INPUT, &[]), (NOT, &[0]), (AND, &[0, 2]), (OR, &[1, 3])],
-        &[(4, 1)],
-    );
+    let p11 = p11();
     l.surveyed("P11's start: a NOT below the front", &p11, "00111", 1, 3, "40471");
     l.surveyed("P11 after up", &p11, "00101", 1, 5, "44447");
     l.surveyed("P11 after up and down 0", &p11, "01101", 0, 0, "01001");
@@ -1364,13 +1467,10 @@ fn fixed_move_bench(l: &mut List) {
     l.moved("A, up (P5)", &adder, a, up(0), (3, 1), "00100101", "44440701");
     l.moved("C, greedy (P6)", &adder, c, greedy(0), (7, 1), "00101001", "44007001");
     l.moved("C, up, option 1 (P7)", &adder, c, up(1), (7, 1), "00100101", "44440701");
-    let p9 = map(&[(INPUT, &[]), (NOT, &[0]), (AND, &[0, 1])], &[(2, 1)]);
+    let p9 = p9();
     l.moved("P9's first down", &p9, "001", down(0), (2, 2), "111", "571");
     l.moved("P9's second down", &p9, "111", down(0), (1, 1), "011", "447");
-    let p11 = map(
-        &[(INPUT, &[]), (INPUT, &[]), (NOT, &[0]), (AND, &[0, 2]), (OR, &[1, 3])],
-        &[(4, 1)],
-    );
+    let p11 = p11();
     l.moved("P11's up", &p11, "00111", up(0), (3, 1), "00101", "44447");
     l.moved("P11's down 0", &p11, "00101", down(0), (4, 1), "01101", "01001");
 
@@ -1518,20 +1618,7 @@ fn fixed_move_kinds(l: &mut List) {
 fn fixed_move_greedy(l: &mut List) {
     // 8 OR(2,3,4,5,6,7) at 1. Of its six options those of gates 3, 5, 6 and 7
     // leave no front, those of gates 2 and 4 an interest set of 3.
-    let six = map(
-        &[
-            (INPUT, &[]),
-            (INPUT, &[]),
-            (AND, &[0, 1]),
-            (INPUT, &[]),
-            (XOR, &[0, 1]),
-            (INPUT, &[]),
-            (NOT, &[1]),
-            (INPUT, &[]),
-            (OR, &[2, 3, 4, 5, 6, 7]),
-        ],
-        &[(8, 1)],
-    );
+    let six = six();
     let start = "000000001";
     let gate_2 = ("001000001", "447000001");
     let gate_3 = ("000100001", "000100001");
@@ -2258,16 +2345,16 @@ fn damage_body(dice: &mut Dice, body: &mut Vec<u8>, other_length: usize) {
     }
 }
 
-/// A draft for an op. A survey or move without codes or of inputs alone shows
-/// little: of those drafts three in four (surveys) or nine in ten (moves) are
-/// drawn again.
+/// A draft for an op. A survey, move or run without codes or of inputs alone
+/// shows little: of those drafts three in four (surveys) or nine in ten (moves
+/// and runs) are drawn again.
 fn draft_for(dice: &mut Dice, op: u8) -> (Draft, Vec<u8>, Vec<u8>) {
     loop {
         let drawn = random_draft(dice);
         let bare = drawn.0.codes.is_empty() || drawn.0.inputs() == drawn.0.gates.len();
         let again = match op {
             b's' => bare && !dice.one_in(4),
-            b'v' => bare && !dice.one_in(10),
+            b'v' | b'r' | b'p' => bare && !dice.one_in(10),
             _ => false,
         };
         if !again {
@@ -2301,12 +2388,16 @@ fn random_configuration(dice: &mut Dice, draft: &Draft, obeying: Vec<u8>) -> Vec
             }
         }
     }
+    keep_codes(draft, &mut body);
+    body
+}
+
+fn keep_codes(draft: &Draft, body: &mut [u8]) {
     for (gate, value) in &draft.codes {
         if let Some(byte) = body.get_mut(*gate as usize) {
             *byte = *value;
         }
     }
-    body
 }
 
 /// Breaks a code: 11.
@@ -2384,30 +2475,200 @@ fn random_entry(dice: &mut Dice) -> Vec<u8> {
     entry
 }
 
-/// The ops of random cases; surveys are five in 27, moves eight.
-const OPS: &[u8; 27] = b"ccckkkkeeemmmmsssssvvvvvvvv";
+/// Adds a gate like a coded one and codes it the other way, so that no state
+/// shows the codes and a run goes on to the tape's end.
+fn contradict(dice: &mut Dice, draft: &mut Draft, configuration: &mut Vec<u8>) {
+    let has_children = |code: &(u16, u8)| draft.gates[code.0 as usize].0 != INPUT;
+    let coded: Vec<(u16, u8)> = draft.codes.iter().cloned().filter(has_children).collect();
+    if coded.is_empty() || draft.gates.len() == 1024 {
+        return;
+    }
+    let (gate, value) = coded[dice.below(coded.len())];
+    draft.codes.push((draft.gates.len() as u16, 1 - value));
+    draft.gates.push(draft.gates[gate as usize].clone());
+    configuration.push(1 - value);
+}
 
-fn random_case(dice: &mut Dice) -> Case {
-    let op = OPS[dice.below(OPS.len())];
-    let (mut draft, row, configuration) = draft_for(dice, op);
+/// The entries of a tape, with a taste for one kind or for none.
+fn random_entries(dice: &mut Dice, count: usize) -> Vec<u8> {
+    let taste = [GREEDY, DOWN, UP, 3][dice.below(4)];
+    let mut tape = Vec::new();
+    for _ in 0..count {
+        let draw = if dice.one_in(3) { 65_535 - dice.below(8) } else { dice.below(65_536) };
+        let kind = if taste == 3 || dice.one_in(3) { dice.below(3) as u8 } else { taste };
+        tape.extend_from_slice(&[(draw % 256) as u8, (draw / 256) as u8, kind, dice.byte()]);
+    }
+    tape
+}
+
+/// How often a tape is repeated: half of them once. Large maps get short runs.
+fn random_times(dice: &mut Dice, gates: usize, entries: usize) -> usize {
+    let most = match dice.below(20) {
+        0 | 1 => 60_000,
+        2..=4 => 12_000,
+        5..=9 => (10 * gates * entries).min(12_000),
+        _ => return 1,
+    };
+    let most = (most / gates).min(16_383) / entries.max(1);
+    1 + dice.below(most.max(1))
+}
+
+/// A tape of up to some hundred entries, and how often it is repeated.
+fn random_tape(dice: &mut Dice, gates: usize) -> (Vec<u8>, usize) {
+    let count = match dice.below(24) {
+        0 => 0,
+        1..=6 => 1 + dice.below(4),
+        7..=16 => 1 + dice.below(20),
+        17..=22 => 1 + dice.below(60),
+        _ => (60 + dice.below(240)).min(10_000 / gates),
+    };
+    (random_entries(dice, count), random_times(dice, gates, count))
+}
+
+/// Damages a tape: a kind above 2 somewhere, a wrong length, or both.
+fn damage_tape(dice: &mut Dice, tape: &mut Vec<u8>) {
+    let what = dice.below(4);
+    if what != 0 && !tape.is_empty() {
+        let at = 4 * dice.below(tape.len() / 4) + 2;
+        tape[at] = 3 + dice.byte() % 253;
+    }
+    if what < 2 {
+        let length = tape.len() + [1, 2, 3, 5][dice.below(4)];
+        tape.resize(length, 1);
+    }
+}
+
+/// A start far from obeying every gate: drawn again up to five times while its
+/// front is empty.
+fn far_start(dice: &mut Dice, draft: &Draft, obeying: &[u8]) -> Vec<u8> {
+    let map = draft.bytes();
+    let mut body = obeying.to_vec();
+    for _ in 0..6 {
+        let share = [2, 3, 5][dice.below(3)];
+        body = obeying.iter().map(|value| value ^ dice.one_in(share) as u8).collect();
+        keep_codes(draft, &mut body);
+        if surveyed_bytes(&map, &body).contains(&7) {
+            break;
+        }
+    }
+    body
+}
+
+/// The start of a run: near to obeying every gate, far from it, or obeying.
+fn random_start(dice: &mut Dice, draft: &Draft, obeying: &[u8]) -> Vec<u8> {
+    match dice.below(16) {
+        0 => obeying.to_vec(),
+        1..=7 => far_start(dice, draft, obeying),
+        _ => moving_configuration(dice, draft, obeying),
+    }
+}
+
+/// An input of the program, with the lengths right or one of them wrong, a
+/// little cut off or added, or more than 65,536 bytes.
+fn random_input(dice: &mut Dice, map: &[u8], start: &[u8], tape: (&[u8], usize)) -> Case {
+    if dice.one_in(40) && map.len() + start.len() < 400 {
+        return Case::program(map, start, (&down(0), 16_383));
+    }
+    let mut case = Case::program(map, start, tape);
+    if !dice.one_in(12) {
+        return case;
+    }
+    match dice.below(5) {
+        0 | 1 => {
+            let place = 2 * dice.below(3);
+            let number = near(dice, case.map[place] as usize + 256 * case.map[place + 1] as usize);
+            case.map[place] = (number % 256) as u8;
+            case.map[place + 1] = (number / 256) as u8;
+        }
+        2 => {
+            case.body.pop();
+        }
+        3 => case.body.push(1),
+        _ => case = Case::input(&case.map[..dice.below(case.map.len())], &[], (&[], 0)),
+    }
+    case
+}
+
+/// A run or an input of the program.
+fn random_run(dice: &mut Dice, op: u8) -> Case {
+    let (mut draft, _, mut configuration) = draft_for(dice, op);
+    if dice.one_in(4) {
+        contradict(dice, &mut draft, &mut configuration);
+    }
+    let (gates, inputs) = (draft.gates.len(), draft.inputs());
+    let map = random_map(dice, op, &mut draft);
+    let mut start = random_start(dice, &draft, &configuration);
+    if dice.one_in(40) {
+        break_code(dice, &draft, &mut start);
+    }
+    if dice.one_in(40) {
+        damage_body(dice, &mut start, inputs);
+    }
+    let (mut tape, mut times) = random_tape(dice, gates);
+    if dice.one_in(25) {
+        damage_tape(dice, &mut tape);
+        times = times.min(60_000 / tape.len().max(1));
+    }
+    if op == b'p' {
+        return random_input(dice, &map, &start, (&tape, times));
+    }
+    if dice.one_in(80) {
+        return Case::run(&map, &start, (&down(0), 16_384), (gates, gates));
+    }
+    let room = |dice: &mut Dice| if dice.one_in(6) { random_room(dice, gates) } else { gates };
+    let rooms = (room(dice), room(dice));
+    Case::run(&map, &start, (&tape, times), rooms)
+}
+
+/// Inputs of the program. Those of seed 1 begin with an empty one and with ones
+/// of 65,536 and 65,537 bytes that are right else.
+pub fn program_inputs(seed: u64, n: usize) -> Vec<Vec<u8>> {
+    let mut list = Vec::new();
+    if seed == 1 {
+        list.extend([vec![], runs::longest(0), runs::longest(1)]);
+    }
+    let mut dice = Dice(seed);
+    while list.len() < n {
+        list.push(random_run(&mut dice, b'p').whole_input());
+    }
+    list.truncate(n);
+    list
+}
+
+/// The map of a case: the draft's, or a damaged one.
+fn random_map(dice: &mut Dice, op: u8, draft: &mut Draft) -> Vec<u8> {
     let gates = draft.gates.len();
-    let inputs = draft.inputs();
-
     let children = draft.gates.iter().map(|(_, children)| children.len()).sum();
     let whole = match op {
         b's' => 70,
         b'v' => 75,
+        b'r' | b'p' => 92,
         _ => 55,
     };
-    let map = if dice.below(100) < whole {
+    if dice.below(100) < whole {
         draft.bytes()
     } else if dice.below(9) < 4 {
-        damage_draft(dice, &mut draft)
+        damage_draft(dice, draft)
     } else {
         let mut bytes = draft.bytes();
         damage_bytes(dice, &mut bytes, gates, children);
         bytes
-    };
+    }
+}
+
+/// The ops of random cases; of 42 surveys are five, moves eight, runs ten and
+/// inputs of the program five.
+const OPS: &[u8; 42] = b"ccckkkkeeemmmmsssssvvvvvvvvrrrrrrrrrrppppp";
+
+fn random_case(dice: &mut Dice) -> Case {
+    let op = OPS[dice.below(OPS.len())];
+    if op == b'r' || op == b'p' {
+        return random_run(dice, op);
+    }
+    let (mut draft, row, configuration) = draft_for(dice, op);
+    let gates = draft.gates.len();
+    let inputs = draft.inputs();
+    let map = random_map(dice, op, &mut draft);
 
     let mut room = 0;
     let mut tape = vec![];
@@ -2467,11 +2728,11 @@ fn random_case(dice: &mut Dice) -> Case {
             body
         }
     };
-    Case { op, map, body, room, tape }
+    Case { room, tape, ..Case::plain(op, &map, &body) }
 }
 
 /// At most n random cases from a seed; fewer where the next one would take the
-/// case file past 262,144 bytes.
+/// case file past 500,000 bytes.
 pub fn random(seed: u64, n: usize) -> Vec<Case> {
     let mut dice = Dice(seed);
     let mut cases = Vec::new();

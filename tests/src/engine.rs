@@ -1,5 +1,5 @@
-//! The independent engine: check, children, evaluate, mark, survey and move,
-//! written straight from document 01 and from nothing else.
+//! The independent engine: check, children, evaluate, mark, survey, move, run
+//! and the program, written straight from document 01 and from nothing else.
 //!
 //! It is slow and plain on purpose. Every offset, count and length is a whole
 //! number (u64) that cannot wrap for any map of up to 65,535 bytes, and every
@@ -406,6 +406,21 @@ fn fails_11(map: &[u8], configuration: &[u8]) -> bool {
     false
 }
 
+/// Tests 1 to 11 in order, which Survey, Move and Run share.
+fn tests_1_to_11(map: &[u8], configuration: &[u8]) -> Result<Counts, u8> {
+    let counts = check(map)?;
+    if configuration.len() as u64 != counts.gates {
+        return Err(9);
+    }
+    if fails_10(configuration) {
+        return Err(10);
+    }
+    if fails_11(map, configuration) {
+        return Err(11);
+    }
+    Ok(counts)
+}
+
 /// "A gate is justified if it is an input or its children give its value."
 fn justified(gate: &GateRecord, value: u8, all_children: &[u64], configuration: &[u8]) -> bool {
     if gate.kind == INPUT {
@@ -451,7 +466,8 @@ fn parts(gate: &GateRecord, value: u8, all_children: &[u64], configuration: &[u8
 
 /// "The cone is the smallest set that has every coded gate and, for each
 /// justified gate in it, these children." One yes or no for each gate. Gates
-/// are taken in only where the set must have them, until nothing changes.
+/// are taken in only where the set must have them, until nothing changes; each
+/// round begins at the last gate, which is quicker and changes nothing else.
 fn cone_of(map: &[u8], configuration: &[u8]) -> Vec<bool> {
     let gates = gate_records(map);
     let all_children = child_records(map);
@@ -462,7 +478,7 @@ fn cone_of(map: &[u8], configuration: &[u8]) -> Vec<bool> {
     let mut changed = true;
     while changed {
         changed = false;
-        for (number, gate) in gates.iter().enumerate() {
+        for (number, gate) in gates.iter().enumerate().rev() {
             let value = configuration[number];
             if !cone[number] || !justified(gate, value, &all_children, configuration) {
                 continue;
@@ -512,32 +528,28 @@ fn size_of(set: &[bool]) -> u64 {
     set.iter().filter(|member| **member).count() as u64
 }
 
+/// What Survey does once it is accepted: the bytes written, the sizes returned.
+fn write_survey(map: &[u8], configuration: &[u8], output: &mut [u8]) -> (u64, u64) {
+    let cone = cone_of(map, configuration);
+    let front = front_of(map, configuration, &cone);
+    let interest = interest_of(map, &front);
+    for gate in 0..cone.len() {
+        output[gate] = cone[gate] as u8 + 2 * front[gate] as u8 + 4 * interest[gate] as u8;
+    }
+    (size_of(&front), size_of(&interest))
+}
+
 /// "**Survey** writes one byte per gate: 1 if in the cone, plus 2 if in the
 /// front, plus 4 if interesting, and returns the sizes of front and interest
 /// set." Numbers 1 to 11 and 14 apply, in that order; a declined call "leaves
 /// all lent memory untouched", and of longer memory "the surplus is never
 /// touched."
 pub fn survey(map: &[u8], configuration: &[u8], output: &mut [u8]) -> Result<(u64, u64), u8> {
-    let counts = check(map)?;
-    if configuration.len() as u64 != counts.gates {
-        return Err(9);
-    }
-    if fails_10(configuration) {
-        return Err(10);
-    }
-    if fails_11(map, configuration) {
-        return Err(11);
-    }
+    let counts = tests_1_to_11(map, configuration)?;
     if (output.len() as u64) < counts.gates {
         return Err(14);
     }
-    let cone = cone_of(map, configuration);
-    let front = front_of(map, configuration, &cone);
-    let interest = interest_of(map, &front);
-    for gate in 0..counts.gates as usize {
-        output[gate] = cone[gate] as u8 + 2 * front[gate] as u8 + 4 * interest[gate] as u8;
-    }
-    Ok((size_of(&front), size_of(&interest)))
+    Ok(write_survey(map, configuration, output))
 }
 
 /// "A tape entry is 4 bytes: draw (u16), kind (0 greedy, 1 down, 2 up), option."
@@ -600,9 +612,8 @@ fn with_turned(configuration: &[u8], gates: &[u64]) -> Vec<u8> {
 /// The size of the interest set, as Survey returns it. Only asked for
 /// configurations that Survey accepts.
 fn interest_size(map: &[u8], configuration: &[u8]) -> u64 {
-    let mut output = vec![0; configuration.len()];
-    let (_, interest) = survey(map, configuration, &mut output).expect("codes are kept");
-    interest
+    let cone = cone_of(map, configuration);
+    size_of(&interest_of(map, &front_of(map, configuration, &cone)))
 }
 
 /// "of the options with the smallest interest set after the move, in rising
@@ -649,11 +660,23 @@ fn turned_by(map: &[u8], configuration: &[u8], drawn: u64, entry: &Entry) -> Vec
     }
 }
 
+/// Does one entry and returns the drawn gate and how many values it turned:
+/// "the gate drawn stands at place draw modulo front size, counted from 0." Only
+/// asked where the front isn't empty.
+fn do_entry(map: &[u8], configuration: &mut [u8], entry: &Entry) -> (u64, u64) {
+    let cone = cone_of(map, configuration);
+    let front = listed(&front_of(map, configuration, &cone));
+    let drawn = front[(entry.draw % front.len() as u64) as usize];
+    let turned = turned_by(map, configuration, drawn, entry);
+    let after = with_turned(configuration, &turned);
+    configuration.copy_from_slice(&after);
+    (drawn, turned.len() as u64)
+}
+
 /// "**Move** does one entry and returns the drawn gate and how many values it
 /// turned (1 to 8). The lent configuration is then the new one, and the first
-/// bytes of the work memory, one per gate, are its survey." with "the gate
-/// drawn stands at place draw modulo front size, counted from 0." Numbers 1 to
-/// 15 apply, in that order; a declined call "leaves all lent memory untouched",
+/// bytes of the work memory, one per gate, are its survey." Numbers 1 to 15
+/// apply, in that order; a declined call "leaves all lent memory untouched",
 /// and of longer memory "the surplus is never touched."
 pub fn make_move(
     map: &[u8],
@@ -661,16 +684,7 @@ pub fn make_move(
     entry: &[u8],
     work: &mut [u8],
 ) -> Result<(u64, u64), u8> {
-    let counts = check(map)?;
-    if configuration.len() as u64 != counts.gates {
-        return Err(9);
-    }
-    if fails_10(configuration) {
-        return Err(10);
-    }
-    if fails_11(map, configuration) {
-        return Err(11);
-    }
+    let counts = tests_1_to_11(map, configuration)?;
     if entry.len() != 4 {
         return Err(12);
     }
@@ -682,14 +696,142 @@ pub fn make_move(
         return Err(14);
     }
     let cone = cone_of(map, configuration);
-    let front = listed(&front_of(map, configuration, &cone));
-    if front.is_empty() {
+    if size_of(&front_of(map, configuration, &cone)) == 0 {
         return Err(15);
     }
-    let drawn = front[(entry.draw % front.len() as u64) as usize];
-    let turned = turned_by(map, configuration, drawn, &entry);
-    let after = with_turned(configuration, &turned);
-    configuration.copy_from_slice(&after);
-    survey(map, configuration, work).expect("a move keeps the codes");
-    Ok((drawn, turned.len() as u64))
+    let outcome = do_entry(map, configuration, &entry);
+    write_survey(map, configuration, work);
+    Ok(outcome)
+}
+
+/// "a struct holding the ending enum Found, Spent(front), Refused(number)
+/// beside two counts."
+#[derive(Debug, Clone, Copy, PartialEq, Eq)]
+pub enum Ending {
+    Found,
+    Spent(u64),
+    Refused(u8),
+}
+
+/// "A run's answer is one record: its ending, its moves and its flips."
+#[derive(Debug, Clone, Copy, PartialEq, Eq)]
+pub struct Answer {
+    pub ending: Ending,
+    pub moves: u64,
+    pub flips: u64,
+}
+
+/// "12. The tape's length isn't a multiple of 4, is above 65,532".
+fn fails_12(tape: &[u8]) -> bool {
+    tape.len() % 4 != 0 || tape.len() > 65_532
+}
+
+/// "13. An entry, even one never reached, has a kind above 2." Only asked once
+/// test 12 is passed.
+fn fails_13(tape: &[u8]) -> bool {
+    tape.chunks(4).any(|bytes| entry_of(bytes).kind > 2)
+}
+
+/// Tests 1 to 14 in order, as they concern Run.
+fn run_tests(map: &[u8], configuration: &[u8], tape: &[u8], work: &[u8], answer: &[u8]) -> Result<(), u8> {
+    let counts = tests_1_to_11(map, configuration)?;
+    if fails_12(tape) {
+        return Err(12);
+    }
+    if fails_13(tape) {
+        return Err(13);
+    }
+    if (work.len() as u64) < counts.gates || (answer.len() as u64) < counts.gates {
+        return Err(14);
+    }
+    Ok(())
+}
+
+/// "Found writes the answer memory: inputs in the cone keep their values, all
+/// other inputs are 0, other gates are evaluated."
+fn write_answer(map: &[u8], configuration: &[u8], answer: &mut [u8]) {
+    let cone = cone_of(map, configuration);
+    let mut row = Vec::new();
+    for (number, gate) in gate_records(map).iter().enumerate() {
+        if gate.kind == INPUT {
+            row.push(if cone[number] { configuration[number] } else { 0 });
+        }
+    }
+    evaluate(map, &row, answer).expect("the map and its memory are accepted");
+}
+
+/// "**Run** repeats: survey; if the front is empty, end Found; if the tape is
+/// used up, end Spent; else do the next entry. A tape goes through the engine
+/// entry by entry, the place reached moving on by four." with "Spent also
+/// carries the front's size. Moves is the number of entries done, flips the sum
+/// of values turned." and "After either ending the configuration is the last
+/// one and the first bytes of the work memory, one per gate, are its survey."
+/// A declined call "leaves all lent memory untouched; the other numbers of its
+/// answer, as Run's moves and flips, are then 0."
+pub fn run(map: &[u8], configuration: &mut [u8], tape: &[u8], work: &mut [u8], answer: &mut [u8]) -> Answer {
+    if let Err(number) = run_tests(map, configuration, tape, work, answer) {
+        return Answer { ending: Ending::Refused(number), moves: 0, flips: 0 };
+    }
+    let (mut moves, mut flips, mut place) = (0, 0, 0);
+    loop {
+        let (front, _) = write_survey(map, configuration, work);
+        if front == 0 {
+            write_answer(map, configuration, answer);
+            return Answer { ending: Ending::Found, moves, flips };
+        }
+        if place == tape.len() {
+            return Answer { ending: Ending::Spent(front), moves, flips };
+        }
+        let (_, turned) = do_entry(map, configuration, &entry_of(&tape[place..place + 4]));
+        moves += 1;
+        flips += turned;
+        place += 4;
+    }
+}
+
+/// "The program reads three u16 lengths (map, configuration, tape) and the three
+/// bodies from standard input". None "if the input passes 65,536 bytes or isn't
+/// exactly the 6 bytes and the three lengths together."
+fn bodies_of(input: &[u8]) -> Option<(&[u8], &[u8], &[u8])> {
+    if input.len() > 65_536 || input.len() < 6 {
+        return None;
+    }
+    let configuration_at = 6 + u16_at(input, 0);
+    let tape_at = configuration_at + u16_at(input, 2);
+    let end = tape_at + u16_at(input, 4);
+    if input.len() as u64 != end {
+        return None;
+    }
+    let (configuration_at, tape_at) = (configuration_at as usize, tape_at as usize);
+    Some((&input[6..configuration_at], &input[configuration_at..tape_at], &input[tape_at..]))
+}
+
+/// "Row is the answer's input values in gate order, one digit each." Only asked
+/// for maps that Check accepts.
+fn row_digits(map: &[u8], answer: &[u8]) -> String {
+    let mut digits = String::new();
+    for (number, gate) in gate_records(map).iter().enumerate() {
+        if gate.kind == INPUT {
+            digits.push(if answer[number] == 1 { '1' } else { '0' });
+        }
+    }
+    digits
+}
+
+/// "prints a line: `FOUND moves flips row`, `SPENT moves flips front` or
+/// `REFUSED number`". The line without its end. The program lends memories of
+/// its own, as long as the largest map needs, so number 14 never comes.
+pub fn program(input: &[u8]) -> String {
+    let (map, configuration, tape) = match bodies_of(input) {
+        Some(bodies) => bodies,
+        None => return String::from("REFUSED 0"),
+    };
+    let mut configuration = configuration.to_vec();
+    let (mut work, mut answer) = ([0; 1024], [0; 1024]);
+    let Answer { ending, moves, flips } = run(map, &mut configuration, tape, &mut work, &mut answer);
+    match ending {
+        Ending::Found => format!("FOUND {moves} {flips} {}", row_digits(map, &answer)),
+        Ending::Spent(front) => format!("SPENT {moves} {flips} {front}"),
+        Ending::Refused(number) => format!("REFUSED {number}"),
+    }
 }

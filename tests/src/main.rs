@@ -1,15 +1,35 @@
 //! Case files and their lines, to hold the proved engine against this independent one.
 //!
-//!     peeriewick-tests fixed            the fixed cases, as a case file
-//!     peeriewick-tests names            their names in order, one per line
-//!     peeriewick-tests expected         their lines, written by hand
-//!     peeriewick-tests random SEED N    at most N random cases, as a case file
-//!     peeriewick-tests answers          reads a case file, prints its lines
+//!     peeriewick-tests fixed              the fixed cases, as a case file
+//!     peeriewick-tests names              their names in order, one per line
+//!     peeriewick-tests expected           their lines, written by hand
+//!     peeriewick-tests random SEED N      at most N random cases, as a case file
+//!     peeriewick-tests answers            reads a case file, prints its lines
+//!     peeriewick-tests inputs SEED N DIR  writes N random inputs of the program as
+//!                                         DIR/0, DIR/1, .. and the lines it is to
+//!                                         print as DIR/0.line, DIR/1.line, ..
 
 mod cases;
 mod engine;
+#[cfg(test)]
+mod run_tests;
 
+use std::fs;
 use std::io::{self, Read, Write};
+use std::path::Path;
+
+fn write_inputs(seed: u64, n: usize, folder: &Path) -> Result<(), String> {
+    let write = |name: String, bytes: &[u8]| {
+        let path = folder.join(name);
+        fs::write(&path, bytes).map_err(|e| format!("{}: {e}", path.display()))
+    };
+    fs::create_dir_all(folder).map_err(|e| format!("{}: {e}", folder.display()))?;
+    for (number, input) in cases::program_inputs(seed, n).iter().enumerate() {
+        write(format!("{number}"), input)?;
+        write(format!("{number}.line"), format!("{}\n", engine::program(input)).as_bytes())?;
+    }
+    Ok(())
+}
 
 fn run(arguments: &[String]) -> Result<Vec<u8>, String> {
     let words: Vec<&str> = arguments.iter().map(|a| a.as_str()).collect();
@@ -51,7 +71,13 @@ fn run(arguments: &[String]) -> Result<Vec<u8>, String> {
             }
             Ok(text.into_bytes())
         }
-        _ => Err(String::from("use: fixed | names | expected | random SEED N | answers")),
+        ["inputs", seed, n, folder] => {
+            let seed = seed.parse::<u64>().map_err(|e| format!("SEED: {e}"))?;
+            let n = n.parse::<usize>().map_err(|e| format!("N: {e}"))?;
+            write_inputs(seed, n, Path::new(folder))?;
+            Ok(vec![])
+        }
+        _ => Err(String::from("use: fixed | names | expected | random SEED N | answers | inputs SEED N DIR")),
     }
 }
 
@@ -252,7 +278,7 @@ mod tests {
         assert_eq!(names.len(), list.len());
         let bytes = file(list.iter().map(|named| &named.case));
         println!("{} fixed cases, {} bytes", list.len(), bytes.len());
-        assert!(bytes.len() < 400_000);
+        assert!(bytes.len() < 500_000);
         let back = parse(&bytes).unwrap();
         assert_eq!(back.len(), list.len());
         assert!(back.iter().zip(&list).all(|(case, named)| *case == named.case));
@@ -274,15 +300,17 @@ mod tests {
         assert_eq!(of(b'm'), (1..=10).collect());
         assert_eq!(of(b's'), (1..=11).chain([14]).collect());
         assert_eq!(of(b'v'), (1..=15).collect());
+        assert_eq!(of(b'r'), (1..=14).collect());
+        assert_eq!(of(b'p'), (0..=13).collect());
     }
 
     #[test]
     fn random_covers_every_number() {
-        let cases = random(1, 700);
-        assert!(cases.len() >= 560, "only {} cases fit", cases.len());
+        let cases = random(1, 1200);
+        assert!(cases.len() >= 960, "only {} cases fit", cases.len());
         let lines: Vec<String> = cases.iter().map(answer).collect();
-        assert_eq!(numbers(lines.iter()), (1..=15).collect());
-        for word in ["OK ", "DONE ", "YES", "NO", "CHILDREN ", "SIZES ", "MOVED "] {
+        assert_eq!(numbers(lines.iter()), (0..=15).collect());
+        for word in ["OK ", "DONE ", "YES", "NO", "CHILDREN ", "SIZES ", "MOVED ", "FOUND ", "SPENT "] {
             let count = lines.iter().filter(|line| line.starts_with(word)).count();
             assert!(count >= 15, "{word}: {count}");
         }
@@ -294,7 +322,7 @@ mod tests {
     #[test]
     fn random_surveys_are_not_bare() {
         let surveys: Vec<Case> = (0..4)
-            .flat_map(|seed| random(seed, 500))
+            .flat_map(|seed| random(seed, 900))
             .filter(|case| case.op == b's')
             .collect();
         let lines: Vec<String> = surveys.iter().map(answer).collect();
@@ -348,7 +376,7 @@ mod tests {
     #[test]
     fn random_moves_are_not_bare() {
         let moves: Vec<Case> = (0..8)
-            .flat_map(|seed| random(seed, 500))
+            .flat_map(|seed| random(seed, 800))
             .filter(|case| case.op == b'v')
             .collect();
         let lines: Vec<String> = moves.iter().map(answer).collect();
@@ -412,7 +440,7 @@ mod tests {
     #[test]
     fn a_move_that_is_cut_off_ends_the_file() {
         let body = vec![0, 0, 1, 1, 0, 1, 0, 1];
-        let case = Case { op: b'v', map: ADDER.to_vec(), body, room: 8, tape: vec![1, 2, 3] };
+        let case = Case { op: b'v', map: ADDER.to_vec(), body, room: 8, tape: vec![1, 2, 3], times: 0, answer: 0 };
         let bytes = case.framed();
         assert_eq!(bytes[..11], [b'v', 68, 0, 8, 0, 8, 0, 3, 0, 0, 0]);
         assert_eq!(bytes[bytes.len() - 4..], [1, 1, 2, 3]);

@@ -1,6 +1,8 @@
-// Runs framed cases from standard input through Check, Children, Evaluate, Mark, Survey and Move, and prints a line for each.
-// A case: an op byte, three u16 (the lengths of the map, of the body and of the output memory), for Move a u32 (the length of the tape), the map, the body,
-// the tape.
+// Runs framed cases from standard input through Check, Children, Evaluate, Mark, Survey, Move, Run and the program's line, and prints a line for each.
+// A case: an op byte, three u16 (the lengths of the map, of the body and of the output memory), for Move, Run and the program a u32 (the length of the
+// tape), for the last two also two u16 (how often the tape is repeated, and the length of the answer memory), the map, the body, the tape.
+use circuit::Ending;
+use circuit::Outcome;
 use libc::STDIN_FILENO;
 use libc::STDOUT_FILENO;
 use map::Checked;
@@ -19,6 +21,12 @@ fn print_number(n: usize) {
 fn print_refused(n: u8) {
     io::write_all(STDOUT_FILENO, b"REFUSED ");
     io::print_decimal(STDOUT_FILENO, n as u64);
+}
+
+fn print_counts(word: &[u8], moves: u16, flips: u32) {
+    io::write_all(STDOUT_FILENO, word);
+    print_number(moves as usize);
+    print_number(flips as usize);
 }
 
 fn print_byte(b: u8) {
@@ -124,19 +132,36 @@ fn mark(map: &[u8], configuration: &[u8]) {
     }
 }
 
-// Copies what fits. Returns how much.
-fn copy(src: &[u8], dst: &mut [u8]) -> usize
+// Copies what fits behind place `at`. Returns the place behind it.
+fn append(src: &[u8], dst: &mut [u8], at: usize) -> usize
+    requires { ⌜ at ≤ length (now dst) ⌝ }
     ensures { λ r. ⌜ r ≤ length (now (dst .entry)) ⌝ }
 {
+    let mut end = at;
     let mut i = 0;
     while i < src.len() {
-        if dst.len() <= i {
-            return i;
+        if dst.len() <= end {
+            return end;
         }
-        dst[i] = src[i];
+        dst[end] = src[i];
+        end += 1;
         i += 1;
     }
-    i
+    end
+}
+
+// The same so many times over.
+fn repeat(src: &[u8], times: usize, dst: &mut [u8], at: usize) -> usize
+    requires { ⌜ at ≤ length (now dst) ⌝ }
+    ensures { λ r. ⌜ r ≤ length (now (dst .entry)) ⌝ }
+{
+    let mut end = at;
+    let mut left = times;
+    while left > 0 {
+        end = append(src, dst, end);
+        left -= 1;
+    }
+    end
 }
 
 fn print_configuration(configuration: &[u8]) {
@@ -168,16 +193,90 @@ fn make_move(map: &[u8], body: &[u8], tape: &[u8], room: usize) {
     let mut memory = [170u8; 2048];
     let n = at_most_2048(room);
     let mut space = [0u8; 65536];
-    let k = copy(body, &mut space);
+    let k = append(body, &mut space, 0);
     moved(map, &mut space[..k], tape, &mut memory[..n]);
 }
 
-fn one_case(op: u8, map: &[u8], body: &[u8], tape: &[u8], room: usize) {
+fn print_outcome(outcome: Outcome) {
+    let ending = outcome.ending;
+    match ending {
+        Ending::Found => print_counts(b"FOUND", outcome.moves, outcome.flips),
+        Ending::Spent(front) => {
+            print_counts(b"SPENT", outcome.moves, outcome.flips);
+            print_number(front as usize);
+        }
+        Ending::Refused(k) => print_refused(k),
+    }
+}
+
+fn run_into(map: &[u8], configuration: &mut [u8], tape: &[u8], work: &mut [u8], answer: &mut [u8]) {
+    print_outcome(search::run(map, configuration, tape, work, answer));
+    print_configuration(configuration);
+    print_configuration(work);
+    print_configuration(answer);
+}
+
+fn run(map: &[u8], body: &[u8], tape: &[u8], room: usize, answer: usize) {
+    let mut work_memory = [170u8; 2048];
+    let mut answer_memory = [170u8; 2048];
+    let w = at_most_2048(room);
+    let a = at_most_2048(answer);
+    let mut space = [0u8; 65536];
+    let k = append(body, &mut space, 0);
+    run_into(
+        map,
+        &mut space[..k],
+        tape,
+        &mut work_memory[..w],
+        &mut answer_memory[..a],
+    );
+}
+
+// Without its line end, which every case gets.
+fn program(input: &[u8]) {
+    let mut out = [0u8; 1100];
+    let n = line::line(input, &mut out);
+    if n > 0 {
+        io::write_all(STDOUT_FILENO, &out[..n - 1]);
+    }
+}
+
+fn long_case(
+    op: u8,
+    map: &[u8],
+    body: &[u8],
+    tape: &[u8],
+    room: usize,
+    times: usize,
+    answer: usize,
+) {
+    let mut space = [0u8; 66000];
+    if op == b'r' {
+        let n = repeat(tape, times, &mut space, 0);
+        run(map, body, &space[..n], room, answer);
+        return;
+    }
+    let a = append(map, &mut space, 0);
+    let b = append(body, &mut space, a);
+    let n = repeat(tape, times, &mut space, b);
+    program(&space[..n]);
+}
+
+fn one_case(
+    op: u8,
+    map: &[u8],
+    body: &[u8],
+    tape: &[u8],
+    room: usize,
+    times: usize,
+    answer: usize,
+) {
     match op {
         b'c' => check(map),
         b'k' => children(map, body),
         b'e' | b's' => write(op, map, body, room),
         b'v' => make_move(map, body, tape, room),
+        b'r' | b'p' => long_case(op, map, body, tape, room, times, answer),
         _ => mark(map, body),
     }
     io::write_all(STDOUT_FILENO, b"\n");
@@ -185,9 +284,13 @@ fn one_case(op: u8, map: &[u8], body: &[u8], tape: &[u8], room: usize) {
 
 // The length of a case's header.
 fn header(op: u8) -> usize
-    ensures { λ r. ⌜ (7 ≤ r) × (r ≤ 11) ⌝ }
+    ensures { λ r. ⌜ (7 ≤ r) × (r ≤ 15) ⌝ }
 {
-    if op == b'v' { 11 } else { 7 }
+    match op {
+        b'v' => 11,
+        b'r' | b'p' => 15,
+        _ => 7,
+    }
 }
 
 // The length of a case's tape.
@@ -199,6 +302,17 @@ fn tape_length(rest: &[u8], head: usize) -> usize
         return 0;
     }
     map::decode::word(rest, 7) + 65536 * map::decode::word(rest, 9)
+}
+
+// The u16 at a place of the header, if the header reaches it.
+fn extra(rest: &[u8], head: usize, at: usize) -> usize
+    requires { ⌜ (head ≤ length (now rest)) × (at ≤ 65536) ⌝ }
+    ensures { λ r. ⌜ r < 65536 ⌝ }
+{
+    if head < at + 2 {
+        return 0;
+    }
+    map::decode::word(rest, at)
 }
 
 fn all_cases(s: &[u8]) {
@@ -224,6 +338,8 @@ fn all_cases(s: &[u8]) {
             &rest[body..tape],
             &rest[tape..end],
             map::decode::word(rest, 5),
+            extra(rest, head, 11),
+            extra(rest, head, 13),
         );
         rest = &rest[end..];
         turns -= 1;

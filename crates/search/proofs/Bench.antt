@@ -20,7 +20,7 @@ use Rattle.search.specs.Table.{P1ToP12}
 use Rattle.search.specs.Table as table
 
 -- every definition that the examples compute with, under one name
-opened : ℕ
+unfoldable pub opened : ℕ
 unfolding _and_ _or_ allBelow descend justified spread reasons cone inFront front interest survey frontSize interestSize drawn downOptions optionAt greedyOptions chosen turned u16At fanInsBefore codeAmong kidsOf offsetsTest kindFits kindTest positionTest positionsTest childTest childrenTest codeTest freeTest firstFailed contentsTests bodiesTests mapTests adderBytes twoCodesBytes bitsTest configurationTests codesTest startTests clashBytes entryAt kindsTest frontTest entryTests moveTests movingBy moving cornerBytes notsBytes inputsBefore rowOf values mark run answer entriesFrom entries tapeTest tapeTests runTests runningBy running markingBy marking surveyTests surveyingBy surveying uncodedBytes
 opened = 0
 

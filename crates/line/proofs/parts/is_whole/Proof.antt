@@ -1,0 +1,44 @@
+use denote.Ref.{now}
+use native.Mathlib.Omega.{arith}
+use Prim.Native.Nat.{ℕ, _≤_}
+use mathlib.Core.Path.{ap}
+use lib.Dec.{eqb}
+use lib.ListN.{length}
+use borrow.Author.Tests.{le-leb, lt-leb}
+use Rattle.folds.specs.Folds.{_and_}
+use Rattle.line.specs.Line.{inputTest}
+use borrow.Author.Needs.{needs}
+use Rattle.line.proofs.parts.is_whole.Statement.{statement}
+use Rattle.line.proofs.parts.is_whole.Tie as tie
+use Rattle.line.proofs.parts.is_whole.Reads as reads
+use Rattle.line.proofs.parts.is_whole.Lts as lts
+use Rattle.map.proofs.decode.word.Reads as word-reads
+
+returns : tie.Need-returns
+unfolding inputTest _and_
+returns c = rw (lt-leb _ _ (c .if1 .taken))
+
+returns-2 : tie.Need-returns-2
+unfolding inputTest _and_
+returns-2 c = let h : length (now (c .before .before .before .args .input)) ≤ 65536 = omega arith in rw (le-leb _ _ h, lt-leb _ _ (c .if2 .taken))
+
+returns-3 : tie.Need-returns-3
+unfolding inputTest _and_
+returns-3 c = let s = c .before .before .before .before .before .before in
+    let h : length (now (s .args .input)) ≤ 65536 = omega arith in
+    let l : 6 ≤ length (now (s .args .input)) = omega arith in
+    rw (le-leb _ _ h, le-leb _ _ l) (ap (λ (n : ℕ). eqb (length (now (s .args .input))) n) (omega (arith, c .before .before .word .ensures .0, c .before .word2 .ensures .0, c .word3 .ensures .0)))
+
+pub is-whole-spec : {M : Type 1} → statement M
+is-whole-spec =
+    tie.close
+    (tie.spec
+    returns
+    returns-2
+    (λ c κs. search needs)
+    (λ c κs. search needs)
+    (λ c. search needs)
+    (λ c κs. search needs)
+    (λ c. search needs)
+    (λ c. search needs)
+    returns-3)

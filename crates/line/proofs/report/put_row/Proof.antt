@@ -1,0 +1,55 @@
+use Rattle.line.proofs.Writing.{wrote-nothing}
+use denote.Ref.{now}
+use Rattle.map.specs.Map.{gateCount}
+use Prim.Native.Nat.{_+_, _-_, _≤_}
+use mathlib.Core.Path.{_≡_, refl}
+use native.Mathlib.Omega.{arith}
+use lib.ListN.{length}
+use Rattle.line.specs.Text.{Wrote}
+use Rattle.line.specs.Line.{rowBelow}
+use Rattle.line.proofs.Rows.{row-none, row-next, row-whole}
+use borrow.Author.Needs.{needs}
+use Rattle.line.proofs.report.put_row.Statement.{statement}
+use Rattle.line.proofs.report.put_row.Tie as tie
+use Rattle.line.proofs.report.put_row.Reads as reads
+use Rattle.line.proofs.report.put_row.Lts as lts
+use Rattle.line.proofs.report.put_input.Reads as put-input-reads
+
+abbrev Inv-loop : tie.InvT-loop
+Inv-loop map gates answer out₀ at end₀ g₀ out end g = (g ≤ gates) × (Wrote at (rowBelow map answer g) out₀ out end × ((end ≤ at + g) × (length out ≡ length out₀)))
+
+abbrev μ-loop : tie.MeasureT-loop
+μ-loop map gates answer out₀ at end₀ g₀ out end g = gates - g
+
+loop-holds : tie.Need-loop-holds Inv-loop μ-loop
+loop-holds c = (omega arith, (rw (row-none _ _) (wrote-nothing _ _), (omega arith, refl)))
+
+put-input-requires : tie.Need-put-input-requires Inv-loop μ-loop
+put-input-requires c κs = let s = c .before .before .before .before .before .before in
+    let l = c .before .before .loop in
+    ((s .pre .0 .0, (s .pre .0 .1 .0, (omega arith, s .pre .0 .1 .1))), omega (arith, l .inv, s .pre .1))
+
+loop-again : tie.Need-loop-again Inv-loop μ-loop
+loop-again c = let l = c .before .before .before .before .before .loop in
+    let p = c .before .before .put-input in
+    (omega arith, (row-next _ _ _ _ _ _ _ _ _ (l .inv .1 .0) (p .ensures .0), (omega (arith, p .ensures .1, l .inv .1 .1 .0), omega (arith, p .kept .1 .1 .1 .1 .0, l .inv .1 .1 .1))))
+
+returns : tie.Need-returns Inv-loop μ-loop
+returns c = let s = c .before .before .before .before .before in
+    let l = c .before .loop in
+    let e : l .g ≡ gateCount (now (s .args .map)) = omega (arith, l .inv .0, s .pre .0 .1 .0) in
+    (rw (← row-whole _ _ _ e) (l .inv .1 .0), omega (arith, l .inv .1 .1 .0))
+
+pub put-row-spec : {M : Type 1} → statement M
+put-row-spec =
+    tie.close
+    (tie.spec
+    Inv-loop
+    μ-loop
+    loop-holds
+    put-input-requires
+    (λ c. search needs)
+    (λ c. search needs)
+    loop-again
+    (λ c. search needs)
+    returns)

@@ -1,0 +1,47 @@
+use Prim.Native.Nat.{_+_, _-_, _≤_}
+use mathlib.Core.Path.{_≡_, refl}
+use native.Mathlib.Omega.{arith}
+use lib.ListN.{length, take}
+use Rattle.line.specs.Text.{Wrote}
+use Rattle.line.proofs.Writing.{wrote-next, wrote-whole}
+use borrow.Author.Needs.{needs}
+use Rattle.line.proofs.text.put_all.Statement.{statement}
+use Rattle.line.proofs.text.put_all.Tie as tie
+use Rattle.line.proofs.text.put_all.Reads as reads
+use Rattle.line.proofs.text.put_all.Lts as lts
+use Rattle.line.proofs.text.put.Reads as put-reads
+
+abbrev Inv-loop : tie.InvT-loop
+Inv-loop text out₀ at n i₀ out i = (i ≤ n) × ((n ≡ length text) × (Wrote at (take i text) out₀ out (at + i) × (length out ≡ length out₀)))
+
+abbrev μ-loop : tie.MeasureT-loop
+μ-loop text out₀ at n i₀ out i = n - i
+
+loop-holds : tie.Need-loop-holds Inv-loop μ-loop
+loop-holds c = (omega arith, (refl, (record { memory = refl; behind = refl }, refl)))
+
+loop-again : tie.Need-loop-again Inv-loop μ-loop
+loop-again c = let l = c .before .before .before .before .before .before .loop in
+    (omega arith, (refl, (wrote-next _ _ _ _ _ _ _ _ (omega arith) refl (l .inv .1 .1 .0) (c .before .before .put .ensures), omega (arith, c .before .before .put .kept .1 .0, l .inv .1 .1 .1))))
+
+returns : tie.Need-returns Inv-loop μ-loop
+returns c = let l = c .before .loop in
+    let e : l .i ≡ length (c .before .before .before .before .args .text .now) = omega (arith, l .inv .0) in
+    rw (← e) (wrote-whole _ _ _ _ _ e (l .inv .1 .1 .0))
+
+pub put-all-spec : {M : Type 1} → statement M
+put-all-spec =
+    tie.close
+    (tie.spec
+    Inv-loop
+    μ-loop
+    loop-holds
+    (λ c. search needs)
+    (λ c. search needs)
+    (λ c κs. search needs)
+    (λ c. search needs)
+    (λ c. search needs)
+    loop-again
+    (λ c. search needs)
+    (λ c. search needs)
+    returns)

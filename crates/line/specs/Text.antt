@@ -1,0 +1,44 @@
+-- Text as bytes, and text written into memory. Assumes nothing.
+use Prim.Native.Nat.{ℕ, zero, suc, _+_, _/_, _%_}
+use mathlib.Core.Path.{_≡_}
+use mathlib.Core.Bool.{cond}
+use mathlib.Core.List.{List, [], _∷_, _++_}
+use lib.ListN.{length}
+use lib.Seq.{sets}
+use lib.Dec.{eqb, ltb}
+
+-- "FOUND ", "SPENT " and "REFUSED ", a blank and a line end
+abbrev pub foundWord : List ℕ
+foundWord = 70 ∷ 79 ∷ 85 ∷ 78 ∷ 68 ∷ 32 ∷ []
+
+abbrev pub spentWord : List ℕ
+spentWord = 83 ∷ 80 ∷ 69 ∷ 78 ∷ 84 ∷ 32 ∷ []
+
+abbrev pub refusedWord : List ℕ
+refusedWord = 82 ∷ 69 ∷ 70 ∷ 85 ∷ 83 ∷ 69 ∷ 68 ∷ 32 ∷ []
+
+abbrev pub blank : List ℕ
+blank = 32 ∷ []
+
+abbrev pub lineEnd : List ℕ
+lineEnd = 10 ∷ []
+
+-- the digit of a value 0 or 1
+abbrev pub digit : ℕ → ℕ
+digit b = cond (eqb b 1) 49 48
+
+-- a number in decimal, without leading zeros, in at most this many places
+unfoldable pub decimalIn : ℕ → ℕ → List ℕ
+decimalIn zero n = []
+decimalIn (suc k) n = cond (ltb n 10) ((48 + n) ∷ []) (decimalIn k (n / 10) ++ ((48 + n % 10) ∷ []))
+
+-- ten places hold every u32
+abbrev pub decimal : ℕ → List ℕ
+decimal n = decimalIn 10 n
+
+-- ---- for inner functions
+
+-- The text x stands in memory from place `at` on and ends before place `end`; no other byte of w has changed.
+pub record Wrote (at : ℕ) (x w after : List ℕ) (end : ℕ) : Type 0 where
+  pub memory : after ≡ sets w at x
+  pub behind : end ≡ at + length x

@@ -1,0 +1,61 @@
+// The parts of an input, and the line of the run on them.
+use super::report;
+use super::text;
+use map::decode;
+ghost use mathlib.Core.Path.{_≡_};
+ghost use Prim.Native.Nat.{_≤_};
+ghost use lib.ListN.{length};
+ghost use Rattle.search.specs.Run.{running};
+ghost use Rattle.line.specs.Text.{Wrote};
+ghost use Rattle.line.specs.Line.{longest, lent, runLine, inputTest, lineOf};
+
+// Runs, with work and answer memory for every map, and writes the line.
+fn put_run(map: &[u8], configuration: &mut [u8], tape: &[u8], out: &mut [u8]) -> usize
+    requires { ⌜ longest ≤ length (now out) ⌝ }
+    ensures { λ r. ⌜ Wrote 0 (runLine (now (map .entry)) (running (now (map .entry)) (now (configuration .entry)) (now (tape .entry)) lent lent)) (now (out .entry)) (now (out .exit)) r × (r ≤ longest) ⌝ }
+{
+    let mut work = [0u8; 1024];
+    let mut answer = [0u8; 1024];
+    let outcome = search::run(map, configuration, tape, &mut work, &mut answer);
+    let ending = outcome.ending;
+    let moves = outcome.moves;
+    let flips = outcome.flips;
+    report::put_report(ending, moves, flips, map, &answer, out)
+}
+
+// The same on a copy of the configuration, which a run changes.
+fn put_parts(map: &[u8], configuration: &[u8], tape: &[u8], out: &mut [u8]) -> usize
+    requires { ⌜ (length (now configuration) ≤ 65536) × (longest ≤ length (now out)) ⌝ }
+    ensures { λ r. ⌜ Wrote 0 (runLine (now (map .entry)) (running (now (map .entry)) (now (configuration .entry)) (now (tape .entry)) lent lent)) (now (out .entry)) (now (out .exit)) r × (r ≤ longest) ⌝ }
+{
+    let mut space = [0u8; 65536];
+    let n = text::put_all(configuration, &mut space, 0);
+    put_run(map, &mut space[..n], tape, out)
+}
+
+// Is the input exactly its parts, and not too long?
+fn is_whole(input: &[u8]) -> bool
+    ensures { λ r. ⌜ r ≡ inputTest (now (input .entry)) ⌝ }
+{
+    if 65536 < input.len() {
+        return false;
+    }
+    if input.len() < 6 {
+        return false;
+    }
+    let bodies = decode::word(input, 0) + decode::word(input, 2) + decode::word(input, 4);
+    input.len() == 6 + bodies
+}
+
+// Writes the line for an input.
+pub fn put_line(input: &[u8], out: &mut [u8]) -> usize
+    requires { ⌜ longest ≤ length (now out) ⌝ }
+    ensures { λ r. ⌜ Wrote 0 (lineOf (now (input .entry))) (now (out .entry)) (now (out .exit)) r × (r ≤ longest) ⌝ }
+{
+    if !is_whole(input) {
+        return report::put_refused(0, out);
+    }
+    let a = 6 + decode::word(input, 0);
+    let b = a + decode::word(input, 2);
+    put_parts(&input[6..a], &input[a..b], &input[b..], out)
+}

@@ -1,0 +1,101 @@
+// The line of a run.
+use super::text;
+use circuit::Ending;
+use map::decode;
+ghost use mathlib.Core.Path.{_≡_};
+ghost use Prim.Native.Nat.{_+_, _<_, _≤_};
+ghost use lib.ListN.{length};
+ghost use Rattle.circuit.specs.declared.Ending.the-variants.{Found};
+ghost use Rattle.map.specs.Map.{gateCount};
+ghost use Rattle.map.specs.Check.{Shaped};
+ghost use Rattle.line.specs.Text.{Wrote};
+ghost use Rattle.line.specs.Line.{longest, inputText, rowText, countsText, foundLine, spentLine, refusedLine, report};
+
+// The digit of gate g's value, if it is an input.
+fn put_input(map: &[u8], gates: usize, g: usize, answer: &[u8], out: &mut [u8], at: usize) -> usize
+    requires { ⌜ Shaped (now map) × ((gates ≡ gateCount (now map)) × ((g < gates) × (gates ≤ length (now answer)))) ⌝ }
+    requires { ⌜ at < length (now out) ⌝ }
+    ensures { λ r. ⌜ Wrote at (inputText (now (map .entry)) (now (answer .entry)) g) (now (out .entry)) (now (out .exit)) r × (r ≤ at + 1) ⌝ }
+{
+    if decode::kind(map, gates, g) == 0 {
+        return text::put(text::value_digit(answer[g]), out, at);
+    }
+    at
+}
+
+// The row.
+fn put_row(map: &[u8], gates: usize, answer: &[u8], out: &mut [u8], at: usize) -> usize
+    requires { ⌜ Shaped (now map) × ((gates ≡ gateCount (now map)) × (gates ≤ length (now answer))) ⌝ }
+    requires { ⌜ at + gates ≤ length (now out) ⌝ }
+    ensures { λ r. ⌜ Wrote at (rowText (now (map .entry)) (now (answer .entry))) (now (out .entry)) (now (out .exit)) r × (r ≤ at + gates) ⌝ }
+{
+    let mut end = at;
+    let mut g = 0;
+    while g < gates {
+        end = put_input(map, gates, g, answer, out, end);
+        g += 1;
+    }
+    end
+}
+
+// The word, moves and flips.
+fn put_counts(word: &[u8], moves: u16, flips: u32, out: &mut [u8]) -> usize
+    requires { ⌜ (length (now word) ≤ 8) × (30 ≤ length (now out)) ⌝ }
+    ensures { λ r. ⌜ Wrote 0 (countsText (now (word .entry)) moves flips) (now (out .entry)) (now (out .exit)) r × (r ≤ 30) ⌝ }
+{
+    let a = text::put_all(word, out, 0);
+    let b = text::put_decimal(moves as u32, 10, out, a);
+    let c = text::put(b' ', out, b);
+    let d = text::put_decimal(flips, 10, out, c);
+    text::put(b' ', out, d)
+}
+
+// `FOUND moves flips row`
+fn put_found(map: &[u8], moves: u16, flips: u32, answer: &[u8], out: &mut [u8]) -> usize
+    requires { ⌜ Shaped (now map) × ((1024 ≤ length (now answer)) × (longest ≤ length (now out))) ⌝ }
+    ensures { λ r. ⌜ Wrote 0 (foundLine moves flips (now (map .entry)) (now (answer .entry))) (now (out .entry)) (now (out .exit)) r × (r ≤ longest) ⌝ }
+{
+    let gates = decode::word(map, 2);
+    let a = put_counts(b"FOUND ", moves, flips, out);
+    let b = put_row(map, gates, answer, out, a);
+    text::put(b'\n', out, b)
+}
+
+// `SPENT moves flips front`
+fn put_spent(front: u16, moves: u16, flips: u32, out: &mut [u8]) -> usize
+    requires { ⌜ longest ≤ length (now out) ⌝ }
+    ensures { λ r. ⌜ Wrote 0 (spentLine front moves flips) (now (out .entry)) (now (out .exit)) r × (r ≤ longest) ⌝ }
+{
+    let a = put_counts(b"SPENT ", moves, flips, out);
+    let b = text::put_decimal(front as u32, 10, out, a);
+    text::put(b'\n', out, b)
+}
+
+// `REFUSED number`
+pub fn put_refused(number: u8, out: &mut [u8]) -> usize
+    requires { ⌜ longest ≤ length (now out) ⌝ }
+    ensures { λ r. ⌜ Wrote 0 (refusedLine number) (now (out .entry)) (now (out .exit)) r × (r ≤ longest) ⌝ }
+{
+    let a = text::put_all(b"REFUSED ", out, 0);
+    let b = text::put_decimal(number as u32, 10, out, a);
+    text::put(b'\n', out, b)
+}
+
+// The line of an ending.
+pub fn put_report(
+    ending: Ending,
+    moves: u16,
+    flips: u32,
+    map: &[u8],
+    answer: &[u8],
+    out: &mut [u8],
+) -> usize
+    requires { ⌜ (ending ≡ Found → Shaped (now map)) × ((1024 ≤ length (now answer)) × (longest ≤ length (now out))) ⌝ }
+    ensures { λ r. ⌜ Wrote 0 (report ending moves flips (now (map .entry)) (now (answer .entry))) (now (out .entry)) (now (out .exit)) r × (r ≤ longest) ⌝ }
+{
+    match ending {
+        Ending::Found => put_found(map, moves, flips, answer, out),
+        Ending::Spent(front) => put_spent(front, moves, flips, out),
+        Ending::Refused(number) => put_refused(number, out),
+    }
+}
