@@ -16,7 +16,8 @@ use Rattle.circuit.specs.declared.Entry.{Entry}
 use Rattle.circuit.specs.Run.{move, Ended, stop, after, run}
 use Rattle.circuit.specs.Promise.{NoFront, EntryDone, config, Promised, Demand2OnCircuits}
 use Rattle.circuit.proofs.Found.{answer-is, answer-satisfies}
-use Rattle.circuit.proofs.Source001.{options-in-order, down-options-are}
+use Rattle.circuit.proofs.Gate.{functions}
+use Rattle.circuit.proofs.Source001.{justified-is, options-in-order, down-options-are, options-justify}
 use Rattle.circuit.proofs.Survey.{survey-is}
 use Rattle.circuit.proofs.Moves.{greedy-options-are, no-front, some-front, entry-done}
 
@@ -126,4 +127,14 @@ promised c ok s k [] = no-entry c ok s k
 promised c ok s k (e ∷ es) = an-entry c ok s k e es (λ q. promised c ok (move c s e .next) (entry-done c ok s k q e .keeps) es)
 
 pub demand2-on-circuits : Demand2OnCircuits
-demand2-on-circuits = record { surveys = survey-is; options = down-options-are; order = options-in-order; greedy = greedy-options-are; answers = answer-is; runs = promised }
+demand2-on-circuits = record {
+  functions = functions;
+  justified = justified-is;
+  surveys = survey-is;
+  options = down-options-are;
+  order = options-in-order;
+  justify = options-justify;
+  greedy = greedy-options-are;
+  answers = answer-is;
+  runs = promised;
+}

@@ -153,7 +153,7 @@ pub record Examples : Type 0 where
   -- P2: of an OR at 1 in the cone the child 5 at 0 does not count.
   pub or-at-one : survey adder B ≡ 1 ∷ 1 ∷ 0 ∷ 0 ∷ 1 ∷ 0 ∷ 0 ∷ 1 ∷ []
   pub no-sizes : (frontSize adder B ≡ 0) × (interestSize adder B ≡ 0)
-  -- Of an AND at 0 in the cone only the child at 0 counts. Taking all of them passes P1 to P12 and demand 3.
+  -- Of an AND at 0 in the cone only the child at 0 counts. None of P1 to P12 would tell if all of them counted.
   pub and-at-zero : survey nand (0 ∷ 1 ∷ 0 ∷ 1 ∷ []) ≡ 1 ∷ 0 ∷ 1 ∷ 1 ∷ []
   -- A NOT is interesting like others (P9's start), and may be in the front (after its first move).
   pub not-below : survey clash (0 ∷ 0 ∷ 1 ∷ []) ≡ 4 ∷ 4 ∷ 7 ∷ []

@@ -11,10 +11,10 @@ use Rattle.circuit.specs.Tools.{same, select, singles}
 pub data Kind : Type 0 where
   Input Not And Or Xor : Kind
 
--- the kind of a kind byte. Those above the last have none: test 4 excludes them, and the last clause stands for them.
 abbrev pub lastKind : ℕ
 lastKind = 4
 
+-- the kind of a kind byte. Those above the last have none: test 4 excludes them, and the last clause stands for them.
 abbrev pub kindOf : ℕ → Kind
 kindOf zero = Input
 kindOf (suc zero) = Not

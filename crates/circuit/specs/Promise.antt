@@ -16,7 +16,7 @@ use Rattle.circuit.specs.Evaluate.{Obeys, Satisfying, Satisfiable, Keeps
 use Rattle.circuit.specs.Survey.{front, frontSize, interestSize}
 use Rattle.circuit.specs.declared.Entry.{Entry}
 use Rattle.circuit.specs.Run.{downOptions, turn, greedyOptions, turned, move, Ended, run, answer}
-use Rattle.circuit.specs.Source001.{OptionOf, Cone, Front, Turned, Size, OptionsInOrder, DownOptionsAre001, SurveyIs001}
+use Rattle.circuit.specs.Source001.{OptionOf, Cone, Front, Turned, Size, Functions, JustifiedIs001, OptionsInOrder, DownOptionsAre001, OptionsJustify, SurveyIs001}
 
 abbrev pub NoFront : Circuit → List ℕ → Type 0
 NoFront c s = (g : ℕ) → ¬ Front c s g
@@ -121,12 +121,20 @@ pub record Promised (c : Circuit) (s : List ℕ) (es : List Entry) (t : ℕ → 
   pub keeps : KeepsCodes c (r .last)
   pub shows : r .outcome .ending ≡ Found → Satisfying c (answer c (r .last))
 
--- Demand 2 as a whole: "Cone, front and interest set are those of source document 001, save two differences", what the options and the answer are, and
--- what runs promise.
+-- Demand 2 on circuits.
+--     functions, justified           "NOT, AND, OR and XOR mean what 001 says", and so does justified
+--     surveys                        "Cone, front and interest set are those of source document 001, save two differences"
+--     options, order, justify        the down options are 001's, in document 01's order; each justifies its gate, and `turn` turns just its gates
+--     greedy                         what greedy picks from
+--     answers                        what Found writes
+--     runs                           what runs promise
 pub record Demand2OnCircuits : Type 0 where
+  pub functions : Functions
+  pub justified : JustifiedIs001
   pub surveys : SurveyIs001
   pub options : DownOptionsAre001
   pub order : OptionsInOrder
+  pub justify : OptionsJustify
   pub greedy : GreedyOptionsAre
   pub answers : AnswerIs
   pub runs : (c : Circuit) → WellFormed c → (s : List ℕ) → KeepsCodes c s → (es : List Entry) → Promised c s es (config c s es) (run c s es)
@@ -163,11 +171,11 @@ pub record FinishingTape (c : Circuit) (s : List ℕ) (ds : List ℕ) (n : ℕ) 
 --                        at most as many entries as the map has gates
 --     bounded            "For every such start and every satisfying assignment of all gates, count the gates where the two differ. For every list of
 --                        front draws of that length .."
-pub record Demand3From (c : Circuit) (s : List ℕ) : Type 0 where
+pub record FoundFrom (c : Circuit) (s : List ℕ) : Type 0 where
   pub only : (tape : List Entry) → run c s tape .outcome .ending ≡ Found → Satisfiable c
   pub some-tape : Satisfiable c
       → (tape : List Entry) × ((e : Entry) → In e tape → Writable e) × (length tape ≤ c .gates) × (run c s tape .outcome .ending ≡ Found)
   pub bounded : (a : List ℕ) → Satisfying c a → (ds : List ℕ) → length ds ≡ differ c s a → FinishingTape c s ds (differ c s a)
 
 abbrev pub Demand3OnCircuits : Type 0
-Demand3OnCircuits = (c : Circuit) → WellFormed c → (s : List ℕ) → KeepsCodes c s → Demand3From c s
+Demand3OnCircuits = (c : Circuit) → WellFormed c → (s : List ℕ) → KeepsCodes c s → FoundFrom c s

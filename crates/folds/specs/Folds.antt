@@ -3,7 +3,7 @@
 use Prim.Native.Nat.{ℕ, zero, suc}
 use mathlib.Core.Bool.{Bool, true, false}
 
--- Both, and either. They are shut, unlike the library's && and ||, so that antt finds the arguments of laws about them.
+-- Both, and either. Unlike the library's && and || they unfold only where a proof asks for it, so that antt finds the arguments of laws about them.
 infixl 35 _and_
 infixl 30 _or_
 unfoldable pub _and_ : Bool → Bool → Bool

@@ -6,6 +6,7 @@ use Rattle.circuit.specs.Circuit.{justified}
 use Rattle.circuit.specs.Survey.{spread, reasons, cone, inFront, front, interest, survey, frontSize, interestSize}
 use Rattle.circuit.specs.Evaluate.{inputsBefore, rowOf, values, mark}
 use Rattle.circuit.specs.Run.{drawn, downOptions, optionAt, greedyOptions, chosen, turned, run, answer}
+use Rattle.circuit.specs.Bench.{adder, clash, uncoded, corner}
 use Rattle.map.specs.Map.{u16At, fanInsBefore, codeAmong, kidsOf}
 use Rattle.map.specs.Check.{offsetsTest, kindFits, kindTest, positionTest, positionsTest, childTest, childrenTest, codeTest, freeTest, firstFailed, contentsTests, bodiesTests, mapTests}
 use Rattle.map.specs.Bench.{adderBytes, twoCodesBytes}
@@ -51,8 +52,9 @@ examples = record {
 }
 
 pub p1-to-p12 : P1ToP12
-unfolding opened
+unfolding opened adder clash uncoded corner
 p1-to-p12 = record {
+  adder-is = record { gates = refl; kinds = refl; kids = refl; codes = refl };
   adder-bytes = refl;
   A-is = refl;
   P1 = refl;
@@ -66,13 +68,17 @@ p1-to-p12 = record {
   P5 = refl;
   C-is = refl;
   P6 = refl;
+  P6-drawn = refl;
   P6-interest = (refl, refl);
   P7 = refl;
   P7-drawn = refl;
   P8 = refl;
-  P9-first = refl;
+  P9-is = record { gates = refl; kinds = refl; kids = refl; codes = refl };
+  P9-then = refl;
   P9 = refl;
+  P10-is = record { gates = refl; kinds = refl; kids = refl; codes = refl };
   P10 = refl;
+  P11-is = record { gates = refl; kinds = refl; kids = refl; codes = refl };
   P11 = refl;
   P11-row = refl;
   P12 = refl;

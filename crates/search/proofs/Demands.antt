@@ -1,54 +1,58 @@
 -- Demands 2 and 3, about Run on bytes. Assumes nothing.
-use Prim.Native.Nat.{ℕ, zero, suc, _*_, _≤_}
+use Prim.Native.Nat.{ℕ, zero, suc, _*_, _≤_, _<_}
 use mathlib.Core.Path.{_≡_, refl, sym, ap, _∙_}
-use mathlib.Core.Bool.{true}
+use mathlib.Core.Bool.{true, false≢true, true≢false}
 use mathlib.Core.Logic.{inl, inr}
 use mathlib.Core.List.{List, _++_}
 use mathlib.Core.List.{List·Memᴰ as In, List·Memᴰ·cases-cons as cases, List·Memᴰ·not-nil as nowhere}
 use native.Mathlib.Omega.{arith}
 use lib.Dec.{eqb}
-use lib.ListN.{length, take, drop, replicate, length-append, length-drop, length-map, length-replicate}
-use lib.Seq.{take-at, drop-at}
+use lib.ListN.{length, getD, take, replicate, length-map, length-replicate, List·getD-append}
+use borrow.Author.Tests.{eqb-true, eqb-false}
 use Rattle.folds.proofs.Tests.{which}
 use Rattle.circuit.specs.declared.Ending.{Ending}
 use Rattle.circuit.specs.declared.Ending.the-variants.{Found, Spent, Refused}
 use Rattle.circuit.specs.declared.Entry.{Entry}
 use Rattle.circuit.specs.Circuit.{WellFormed}
-use Rattle.circuit.specs.Evaluate.{KeepsCodes, differ}
+use Rattle.circuit.specs.Evaluate.{Satisfying, KeepsCodes, differ}
 use Rattle.circuit.specs.Survey.{survey}
 use Rattle.circuit.specs.Run.{Ended, run, answer}
 use Rattle.circuit.specs.Promise.{config, Promised, FinishingTape}
 use Rattle.circuit.proofs.Found.{answer-is}
-use Rattle.circuit.proofs.Survey.{survey-is}
 use Rattle.circuit.proofs.Trace.{demand2-on-circuits}
 use Rattle.circuit.proofs.Turns.{differ-most}
 use Rattle.circuit.proofs.Finish.{demand3-on-circuits}
-use Rattle.map.specs.Map.{gateCount, circuit}
-use Rattle.map.specs.Check.{firstFailed, mapTests, verdict}
-use Rattle.map.proofs.Accepted.{facts, well-formed}
+use Rattle.map.specs.Map.{gateCount, codeCount, codeGate, codeValue, circuit}
+use Rattle.map.specs.Check.{firstFailed, mapTests, verdict, IsMap}
+use Rattle.map.proofs.Accepted.{facts, well-formed, accepted-maps}
+use Rattle.map.proofs.Codes.{code-found}
 use Rattle.state.specs.State.{over}
+use Rattle.state.proofs.Over.{over-first, over-rest, over-long}
 use Rattle.state.proofs.Meaning.{mark-says}
-use Rattle.survey.proofs.Meaning.{survey-writes}
+use Rattle.survey.proofs.Meaning.{survey-writes, survey-accepts}
 use Rattle.search.specs.Tape.{entries}
-use Rattle.search.specs.Run.{tapeTests, runTests, acceptedBy, answered, ran, runningBy, running, Room, Runnable}
-use Rattle.search.specs.Demands.{Satisfies, FoundWrites, RunMeans, Demand2, SameForAllMemories, AreDraws, Way, Plain, tapeOf, Finishing, Demand3}
-use Rattle.search.proofs.Meaning.{move-writes}
-use Rattle.search.proofs.RunMeaning.{run-ends, of-room, none, written, runnable, of-runnable}
+use Rattle.search.specs.Run.{tapeTests, runTests, told, answered, ran, runningBy, running, Room, Runnable}
+use Rattle.search.specs.Demands.{Satisfies, FoundWrites, RunMeans, Demand2, SameRun, SameForAllMemories, AreDraws, Way, Plain, tapeOf, Finishing, Demand3}
+use Rattle.search.proofs.Meaning.{move-writes, move-accepts}
+use Rattle.search.proofs.Runs.{survey-length, answer-length}
+use Rattle.search.proofs.RunMeaning.{run-ends, of-room, none, written, runnable, of-runnable, found-accepted, run-accepts}
 use Rattle.search.proofs.Tapes.{entries-length, entry-is, waysOf, ways-length, ways-plain, entries-back, tape-length, tape-kinds, tape-bytes}
 
--- ---- a lent memory w with x written over its first n bytes
-
-module _ (x w : List ℕ) (n : ℕ) (l : length x ≡ n) where
-  over-first : take n (over x w) ≡ x
-  over-first = take-at x (drop (length x) w) n l
-
-  over-rest : drop n (over x w) ≡ drop n w
-  over-rest = drop-at x (drop (length x) w) n l ∙ ap (λ (i : ℕ). drop i w) l
-
-  over-long : n ≤ length w → length (over x w) ≡ length w
-  over-long h = simp (length-append, length-drop) (omega arith)
-
 -- ---- demand 2
+
+-- each code record finds its value in a satisfying assignment, whatever bytes stand behind it
+shown : (m : List ℕ) → IsMap m → (a rest : List ℕ) → Satisfying (circuit m) a → (r : ℕ) → r < codeCount m → getD (a ++ rest) (codeGate m r) 0 ≡ codeValue m r
+shown m k a rest w r h =
+    let g = k .sound .coded-gate r h in
+    let v = w .shows (codeGate m r) g (eqb (codeValue m r) 1) (code-found m k (codeCount m) r h (omega arith)) in
+    List·getD-append a rest 0 (codeGate m r) (omega (arith, w .configuration .long))
+    ∙ same-bit (getD a (codeGate m r) 0) (codeValue m r) (w .configuration .bits (codeGate m r)) (k .code-values r h) v
+  where
+    same-bit : (x y : ℕ) → x ≤ 1 → y ≤ 1 → eqb x 1 ≡ eqb y 1 → x ≡ y
+    same-bit x y p q e = elim (which (eqb y 1)) [
+      | inl b ↦ eqb-true x 1 (e ∙ b) ∙ sym (eqb-true y 1 b)
+      | inr b ↦ (let nx = eqb-false x 1 (e ∙ b) in let ny = eqb-false y 1 b in omega (arith, nx, ny))
+    ]
 
 -- what is not Found leaves the answer memory
 not-answered : (e : Ending) (x ans : List ℕ) → ¬ (e ≡ Found) → answered e x ans ≡ ans
@@ -74,20 +78,21 @@ module _ (m s tape work ans : List ℕ) (a : Runnable m s tape work ans) where
       record {
         answered = rw first w;
         marked = rw first (mark-says m (answer (circuit m) (end .last)) .1 (a .accepted, promised .shows f));
+        codes = λ r h. shown m (facts m (a .accepted)) (answer (circuit m) (end .last)) _ (promised .shows f) r h;
         surplus = over-rest (answer (circuit m) (end .last)) ans (gateCount m) l;
         long = over-long (answer (circuit m) (end .last)) ans (gateCount m) l (a .room .answer-room);
       }
 
   means : RunMeans m s tape work ans (ran (circuit m) end work ans)
   means =
-      let l : length (survey (circuit m) (end .last)) ≡ gateCount m = survey-is (circuit m) ok (end .last) .long in
+      let l = survey-length (circuit m) (end .last) in
       record {
+        accepted = a .accepted;
         start = a .start;
         entries-are = entries-length tape (a .whole-entries);
         entry-is = entry-is tape (a .whole-entries);
         promised = promised;
-        number = run-ends (circuit m) s (entries tape) .number;
-        front = run-ends (circuit m) s (entries tape) .front;
+        told = run-ends (circuit m) s (entries tape);
         surveyed = over-first (survey (circuit m) (end .last)) work (gateCount m) l;
         work-surplus = over-rest (survey (circuit m) (end .last)) work (gateCount m) l;
         work-long = over-long (survey (circuit m) (end .last)) work (gateCount m) l (a .room .work-room);
@@ -95,11 +100,20 @@ module _ (m s tape work ans : List ℕ) (a : Runnable m s tape work ans) where
         not-found = not-answered (end .outcome .ending) (answer (circuit m) (end .last)) ans;
       }
 
-run-means : (m s tape work ans : List ℕ) → acceptedBy (running m s tape work ans .outcome .ending) ≡ true → RunMeans m s tape work ans (running m s tape work ans)
+run-means : (m s tape work ans : List ℕ) → running m s tape work ans .told .accepted ≡ true → RunMeans m s tape work ans (running m s tape work ans)
 run-means m s tape work ans e = let n = none m s tape work ans e in rw (written m s tape work ans n) (means m s tape work ans (runnable m s tape work ans n))
 
 pub demand2 : Demand2
-demand2 = record { notions = demand2-on-circuits; surveys = survey-writes; moves = move-writes; runs = run-means }
+demand2 = record {
+  maps = accepted-maps;
+  notions = demand2-on-circuits;
+  survey-accepts = survey-accepts;
+  surveys = survey-writes;
+  move-accepts = move-accepts;
+  moves = move-writes;
+  run-accepts = run-accepts;
+  runs = run-means;
+}
 
 -- ---- all memories: the tests of two calls are the same, and what their number gives too
 
@@ -108,12 +122,23 @@ module _ (m s tape work ans work' ans' : List ℕ) where
   unfolding runTests tapeTests
   same-tests r r' = rw (of-room m work ans r, of-room m work' ans' r')
 
-  same-by : (n : ℕ) → (runningBy n m s tape work ans .outcome ≡ runningBy n m s tape work' ans' .outcome)
-      × (runningBy n m s tape work ans .configuration ≡ runningBy n m s tape work' ans' .configuration)
+  -- two accepted calls, and two calls with the same number
+  same-ran : (r : Ended) → SameRun m (ran (circuit m) r work ans) (ran (circuit m) r work' ans')
+  same-ran r =
+      let l = survey-length (circuit m) (r .last) in
+      let k = answer-length (circuit m) (r .last) in
+      record {
+        outcome = refl;
+        configuration = refl;
+        surveyed = λ e. over-first (survey (circuit m) (r .last)) work (gateCount m) l ∙ sym (over-first (survey (circuit m) (r .last)) work' (gateCount m) l);
+        answered = λ e. rw e (over-first (answer (circuit m) (r .last)) ans (gateCount m) k ∙ sym (over-first (answer (circuit m) (r .last)) ans' (gateCount m) k));
+      }
+
+  same-by : (n : ℕ) → SameRun m (runningBy n m s tape work ans) (runningBy n m s tape work' ans')
   unfolding runningBy
   same-by n = elim (which (eqb n 0)) [
-    | inl q ↦ rw q (refl, refl)
-    | inr q ↦ rw q (refl, refl)
+    | inl q ↦ rw q (same-ran (run (circuit m) s (entries tape)))
+    | inr q ↦ rw q (record { outcome = refl; configuration = refl; surveyed = λ e. absurd (false≢true e); answered = λ e. absurd (true≢false (sym (ap (λ (x : Ending). told x .accepted) e))) })
   ]
 
 pub same-for-all-memories : SameForAllMemories
@@ -125,7 +150,7 @@ same-for-all-memories m s tape work ans work' ans' r r' =
 
 -- what Found leaves in the answer memory satisfies the map
 only : (m s tape work ans : List ℕ) → running m s tape work ans .outcome .ending ≡ Found → (a : List ℕ) × Satisfies m a
-only m s tape work ans f = (take (gateCount m) (running m s tape work ans .answer), run-means m s tape work ans (ap acceptedBy f) .found f .marked)
+only m s tape work ans f = (take (gateCount m) (running m s tape work ans .answer), run-means m s tape work ans (found-accepted m s tape work ans f) .found f .marked)
 
 module _ (m s : List ℕ) (v : verdict m ≡ 0) (k : KeepsCodes (circuit m) s) where
   -- a tape of entries that ends Found, as bytes
@@ -164,6 +189,7 @@ module _ (m s : List ℕ) (v : verdict m ≡ 0) (k : KeepsCodes (circuit m) s) w
       one-each = one-each;
       plain = plain;
       bytes = tape-bytes ds ways d plain;
+      draws = rw reads (f .draws);
       run-finds = λ work ans r. rw (runs work ans r) (record { found = f .ends-found; moves = f .moves; flips = f .flips });
     }
 

@@ -1,13 +1,12 @@
 -- What Move means. Assumes nothing.
 use Prim.Native.Nat.{ℕ, _+_, _*_, _/_, _≤_}
-use mathlib.Core.Path.{_≡_, refl, sym, ap, _∙_}
+use mathlib.Core.Path.{_≡_, refl, sym, _∙_}
 use mathlib.Core.Bool.{true, false, false≢true, true≢false}
 use mathlib.Core.Logic.{inl, inr}
 use mathlib.Core.List.{List, _++_}
 use native.Mathlib.Omega.{arith}
 use lib.Dec.{eqb, leb}
-use lib.ListN.{length, getD, drop, length-append, length-drop}
-use lib.Seq.{take-at, drop-at}
+use lib.ListN.{length, getD}
 use borrow.Author.Tests.{eqb-true, eqb-false, eq-eqb, leb-true, le-leb, not-true}
 use Rattle.folds.proofs.Tests.{which}
 use Rattle.folds.proofs.Loops.{all-at, all-of}
@@ -22,9 +21,9 @@ use Rattle.map.specs.Check.{firstFailed, contentsTests, bodiesTests, mapTests, 
 use Rattle.map.proofs.Laws.{past, no-test, none-failed, passed-before}
 use Rattle.map.proofs.Accepted.{facts, well-formed}
 use Rattle.map.proofs.Answers.{behind-accepted}
-use Rattle.state.specs.State.{over}
+use Rattle.state.specs.State.{configurationTests, over}
+use Rattle.state.proofs.Over.{over-first, over-rest, over-long}
 use Rattle.state.proofs.Meaning.{behind}
-use Rattle.state.specs.State.{configurationTests}
 use Rattle.survey.specs.Survey.{startTests}
 use Rattle.survey.proofs.Starts.{behind-start, start-of, of-start}
 use Rattle.search.specs.Tape.{entryAt, kindsTest}
@@ -107,6 +106,7 @@ move-writes m s entry work e =
     let d = entry-done (circuit m) ok s (a .start) (some-of m s (a .accepted) (a .some-front)) (entryAt entry 0) in
     let l : length (survey (circuit m) (move (circuit m) s (entryAt entry 0) .next)) ≡ gateCount m = survey-is (circuit m) ok (move (circuit m) s (entryAt entry 0) .next) .long in
     rw (written m s entry work n) (record {
+      accepted = a .accepted;
       start = a .start;
       does = d;
       number = refl;
@@ -114,9 +114,9 @@ move-writes m s entry work e =
       turns = d .turns;
       count = (sym (d .differs), d .few);
       keeps = d .keeps;
-      surveyed = take-at _ _ (gateCount m) l;
-      surplus = drop-at (survey (circuit m) (move (circuit m) s (entryAt entry 0) .next)) _ (gateCount m) l ∙ ap (λ (i : ℕ). drop i work) l;
-      long = simp (length-append, length-drop) (omega (arith, a .room));
+      surveyed = over-first (survey (circuit m) (move (circuit m) s (entryAt entry 0) .next)) work (gateCount m) l;
+      surplus = over-rest (survey (circuit m) (move (circuit m) s (entryAt entry 0) .next)) work (gateCount m) l;
+      long = over-long (survey (circuit m) (move (circuit m) s (entryAt entry 0) .next)) work (gateCount m) l (a .room);
     })
   where
     some-of : (m s : List ℕ) → verdict m ≡ 0 → ¬ NoFront (circuit m) s → isEmpty (front (circuit m) s) ≡ false

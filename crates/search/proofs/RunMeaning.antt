@@ -1,6 +1,6 @@
 -- Which calls Run accepts, and what a declined one gives. Assumes nothing.
 use Prim.Native.Nat.{ℕ}
-use mathlib.Core.Path.{_≡_, refl, sym, _∙_}
+use mathlib.Core.Path.{_≡_, refl, sym, ap, _∙_}
 use mathlib.Core.Bool.{Bool, true, false≢true, true≢false}
 use mathlib.Core.Logic.{inl, inr}
 use mathlib.Core.List.{List, [], _∷_, _++_}
@@ -12,6 +12,7 @@ use Rattle.folds.proofs.Tests.{which, and-left, and-right, and-both}
 use Rattle.circuit.specs.declared.Entry.{Entry}
 use Rattle.circuit.specs.Tools.{isEmpty}
 use Rattle.circuit.specs.Circuit.{Circuit}
+use Rattle.circuit.specs.declared.Ending.{Ending}
 use Rattle.circuit.specs.declared.Ending.the-variants.{Found}
 use Rattle.circuit.specs.Survey.{front, frontSize}
 use Rattle.circuit.specs.Run.{move, Ended, stop, run}
@@ -25,18 +26,16 @@ use Rattle.state.proofs.Meaning.{behind}
 use Rattle.survey.specs.Survey.{startTests}
 use Rattle.survey.proofs.Starts.{behind-start, start-of, of-start}
 use Rattle.search.specs.Tape.{entries, tapeTest}
-use Rattle.search.specs.Run.{tapeTests, runTests, acceptedBy, numberOf, frontOf, ran, runningBy, running, Room, Runnable, RunAccepts, RunTestsInOrder, RunDeclines}
+use Rattle.search.specs.Run.{tapeTests, runTests, Told, told, ran, runningBy, running, Room, Runnable, RunAccepts, RunTestsInOrder, RunDeclines}
 use Rattle.search.proofs.Tapes.{kinds-of, of-kinds}
 
 -- how a run on a circuit ends: it is never refused, and the front that its ending carries is that of the last configuration
-pub record Ends (c : Circuit) (r : Ended) : Type 0 where
-  pub accepted : acceptedBy (r .outcome .ending) ≡ true
-  pub number : numberOf (r .outcome .ending) ≡ 0
-  pub front : frontOf (r .outcome .ending) ≡ frontSize c (r .last)
+abbrev pub Ends : Circuit → Ended → Type 0
+Ends c r = told (r .outcome .ending) ≡ record { accepted = true; number = 0; front = frontSize c (r .last) }
 
 ends-found : (c : Circuit) (s : List ℕ) → isEmpty (front c s) ≡ true → Ends c (stop Found s)
 unfolding frontSize
-ends-found c s q = record { accepted = refl; number = refl; front = sym (none-of (front c s) q) }
+ends-found c s q = ap (λ (n : ℕ). record { accepted = true; number = 0; front = n }) (sym (none-of (front c s) q))
   where
     none-of : (xs : List ℕ) → isEmpty xs ≡ true → length xs ≡ 0
     none-of [] e = refl
@@ -45,11 +44,11 @@ ends-found c s q = record { accepted = refl; number = refl; front = sym (none-of
 pub run-ends : (c : Circuit) (s : List ℕ) (es : List Entry) → Ends c (run c s es)
 run-ends c s [] = elim (which (isEmpty (front c s))) [
   | inl q ↦ rw (run-found c s [] q) (ends-found c s q)
-  | inr q ↦ rw (run-spent c s q) (record { accepted = refl; number = refl; front = refl })
+  | inr q ↦ rw (run-spent c s q) refl
 ]
 run-ends c s (e ∷ es) = elim (which (isEmpty (front c s))) [
   | inl q ↦ rw (run-found c s (e ∷ es) q) (ends-found c s q)
-  | inr q ↦ (let r = run-ends c (move c s e .next) es in rw (run-step c s e es q) (record { accepted = r .accepted; number = r .number; front = r .front }))
+  | inr q ↦ rw (run-step c s e es q) (run-ends c (move c s e .next) es)
 ]
 
 -- test 14
@@ -71,15 +70,22 @@ module _ (m s tape work ans : List ℕ) where
   unfolding running runningBy
   written e = rw (eq-eqb number 0 e)
 
-  pub none : acceptedBy (running m s tape work ans .outcome .ending) ≡ true → number ≡ 0
+  pub none : running m s tape work ans .told .accepted ≡ true → number ≡ 0
   unfolding running runningBy
   none e = elim (which (eqb number 0)) [
     | inl q ↦ eqb-true number 0 q
     | inr q ↦ absurd (false≢true (rw q at e))
   ]
 
-  accepted : number ≡ 0 → acceptedBy (running m s tape work ans .outcome .ending) ≡ true
-  accepted e = rw (written e) (run-ends (circuit m) s (entries tape) .accepted)
+  pub found-accepted : running m s tape work ans .outcome .ending ≡ Found → running m s tape work ans .told .accepted ≡ true
+  unfolding running runningBy
+  found-accepted f = elim (which (eqb number 0)) [
+    | inl q ↦ rw q (ap (λ (t : Told). t .accepted) (run-ends (circuit m) s (entries tape)))
+    | inr q ↦ absurd (false≢true (ap (λ (e : Ending). told e .accepted) (rw q at f)))
+  ]
+
+  accepted : number ≡ 0 → running m s tape work ans .told .accepted ≡ true
+  accepted e = rw (written e) (ap (λ (t : Told). t .accepted) (run-ends (circuit m) s (entries tape)))
 
   -- what each test says
   pub runnable : number ≡ 0 → Runnable m s tape work ans

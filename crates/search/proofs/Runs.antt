@@ -161,7 +161,7 @@ answer-length c s = values-length c (λ g. cone c s g and on s g) (c .gates)
 pub answers : (e : Ending) (x ans w : List ℕ) (n : ℕ) → e ≡ Found → length x ≡ n → w ≡ x → w ++ drop n ans ≡ answered e x ans
 answers e x ans w n q l h = rw (q, h, l)
 
-survey-length : (c : Circuit) (s : List ℕ) → length (survey c s) ≡ c .gates
+pub survey-length : (c : Circuit) (s : List ℕ) → length (survey c s) ≡ c .gates
 unfolding survey
 survey-length c s = length-table (λ g. byte (cone c s g) + 2 * byte (inFront c s g) + 4 * byte (interest c s g)) (c .gates)
 

@@ -2,20 +2,20 @@
 use Prim.Native.Nat.{ℕ, _*_, _/_, _%_, _≤_, _<_}
 use mathlib.Core.Path.{_≡_}
 use mathlib.Core.Bool.{true}
-use mathlib.Core.List.{List, [], _∷_, List·Memᴰ as In}
+use mathlib.Core.List.{List, [], _∷_, map, List·Memᴰ as In}
 use lib.ListN.{length, getD, take, drop}
 use Rattle.circuit.specs.declared.Ending.the-variants.{Found}
 use Rattle.circuit.specs.declared.Entry.{Entry}
 use Rattle.circuit.specs.Evaluate.{KeepsCodes, differ}
 use Rattle.circuit.specs.Survey.{survey, frontSize}
 use Rattle.circuit.specs.Promise.{Answered, config, Promised, Demand2OnCircuits}
-use Rattle.map.specs.Map.{gateCount, circuit}
-use Rattle.map.specs.Check.{verdict}
+use Rattle.map.specs.Map.{gateCount, codeCount, codeGate, codeValue, circuit}
+use Rattle.map.specs.Check.{verdict, AcceptedMaps}
 use Rattle.state.specs.State.{marking}
-use Rattle.survey.specs.Survey.{SurveyWrites}
+use Rattle.survey.specs.Survey.{SurveyWrites, SurveyAccepts}
 use Rattle.search.specs.Tape.{entryAt, entries}
-use Rattle.search.specs.Move.{MoveWrites}
-use Rattle.search.specs.Run.{Running, acceptedBy, numberOf, frontOf, running, Room}
+use Rattle.search.specs.Move.{MoveWrites, MoveAccepts}
+use Rattle.search.specs.Run.{Running, running, Room, RunAccepts, RunTestsInOrder, RunDeclines}
 
 -- "Such a configuration is a satisfying assignment.": one to which Mark says yes
 abbrev pub Satisfies : List ℕ → List ℕ → Type 0
@@ -24,10 +24,12 @@ Satisfies m a = marking m a .yes ≡ true
 -- ---- demand 2
 
 -- What stands in the answer memory after Found, where `last` is the last configuration: its first bytes, one per gate, are 'inputs in the cone keep their
--- values, all other inputs are 0, other gates are evaluated', and Mark says yes to them: they obey every gate and show every code. The surplus stands.
+-- values, all other inputs are 0, other gates are evaluated', and Mark says yes to them: they obey every gate and show every code. Each code record of the map
+-- finds its value there. The surplus stands.
 pub record FoundWrites (m last ans after : List ℕ) : Type 0 where
   pub answered : Answered (circuit m) last (take (gateCount m) after)
   pub marked : Satisfies m (take (gateCount m) after)
+  pub codes : (r : ℕ) → r < codeCount m → getD after (codeGate m r) 0 ≡ codeValue m r
   pub surplus : drop (gateCount m) after ≡ drop (gateCount m) ans
   pub long : length after ≡ length ans
 
@@ -35,17 +37,17 @@ pub record FoundWrites (m last ans after : List ℕ) : Type 0 where
 --     entries-are           the tape is its entries, four bytes each,
 --     entry-is              in that order
 --     promised              the record and the last configuration are those of document 01's run: `Promised` says what that is, with the configurations
---                           c 0, the start, c 1, after the first entry, and so on
---     number, front         an accepted call's number is 0, and its front that of the last configuration: 0 for Found, and "Spent also carries the front's size"
+--                           `config .. 0`, the start, `config .. 1`, after the first entry, and so on
+--     told                  an accepted call's number is 0, and its front that of the last configuration: 0 for Found, and "Spent also carries the front's size"
 --     surveyed              "the first bytes of the work memory, one per gate, are its survey"; the surplus stands
 --     found, not-found      what the answer memory holds
 pub record RunMeans (m s tape work ans : List ℕ) (r : Running) : Type 0 where
+  pub accepted : verdict m ≡ 0
   pub start : KeepsCodes (circuit m) s
   pub entries-are : length tape ≡ 4 * length (entries tape)
   pub entry-is : (d : Entry) (i : ℕ) → 4 * i < length tape → getD (entries tape) i d ≡ entryAt tape (4 * i)
   pub promised : Promised (circuit m) s (entries tape) (config (circuit m) s (entries tape)) (record { outcome = r .outcome; last = r .configuration })
-  pub number : numberOf (r .outcome .ending) ≡ 0
-  pub front : frontOf (r .outcome .ending) ≡ frontSize (circuit m) (r .configuration)
+  pub told : r .told ≡ record { accepted = true; number = 0; front = frontSize (circuit m) (r .configuration) }
   pub surveyed : take (gateCount m) (r .work) ≡ survey (circuit m) (r .configuration)
   pub work-surplus : drop (gateCount m) (r .work) ≡ drop (gateCount m) work
   pub work-long : length (r .work) ≡ length work
@@ -55,20 +57,30 @@ pub record RunMeans (m s tape work ans : List ℕ) (r : Running) : Type 0 where
 -- "Cone, front and interest set are those of source document 001, save two differences that document 01 marks. A run makes the moves of document 01,
 -- reports as moves and flips the count of entries done and the sum of values they turned, and ends Found exactly when its front becomes empty within the
 -- tape; the state it then gives obeys every gate and shows every code."
+--     maps, notions    the circuit of an accepted map is well formed, so what `Demand2OnCircuits` says holds of it
+--     survey-.., ..    which calls are accepted, and what these do
 pub record Demand2 : Type 0 where
+  pub maps : AcceptedMaps
   pub notions : Demand2OnCircuits
+  pub survey-accepts : SurveyAccepts
   pub surveys : SurveyWrites
+  pub move-accepts : MoveAccepts
   pub moves : MoveWrites
-  pub runs : (m s tape work ans : List ℕ) → acceptedBy (running m s tape work ans .outcome .ending) ≡ true
+  pub run-accepts : RunAccepts
+  pub runs : (m s tape work ans : List ℕ) → running m s tape work ans .told .accepted ≡ true
       → RunMeans m s tape work ans (running m s tape work ans)
 
 -- "Work and answer memory may hold any bytes and have any length that number 14 lets through: ending, moves and flips are the same for all of them.",
--- and so is the configuration that is left.
+-- and so are the configuration that is left, the survey of an accepted call and the answer of Found.
+pub record SameRun (m : List ℕ) (r r' : Running) : Type 0 where
+  pub outcome : r .outcome ≡ r' .outcome
+  pub configuration : r .configuration ≡ r' .configuration
+  pub surveyed : r .told .accepted ≡ true → take (gateCount m) (r .work) ≡ take (gateCount m) (r' .work)
+  pub answered : r .outcome .ending ≡ Found → take (gateCount m) (r .answer) ≡ take (gateCount m) (r' .answer)
+
 abbrev pub SameForAllMemories : Type 0
 SameForAllMemories =
-    (m s tape work ans work' ans' : List ℕ) → Room m work ans → Room m work' ans'
-    → (running m s tape work ans .outcome ≡ running m s tape work' ans' .outcome)
-    × (running m s tape work ans .configuration ≡ running m s tape work' ans' .configuration)
+    (m s tape work ans work' ans' : List ℕ) → Room m work ans → Room m work' ans' → SameRun m (running m s tape work ans) (running m s tape work' ans')
 
 -- ---- demand 3
 
@@ -102,12 +114,13 @@ pub record FoundWithin (n : ℕ) (r : Running) : Type 0 where
   pub flips : r .outcome .flips ≤ n
 
 -- "kind and option bytes exist, no kind among them greedy, with which document 01's run on exactly those draws ends Found ..": the same bytes for all
--- memories
+-- memories. What Run reads on the tape are those draws.
 pub record Finishing (m s ds : List ℕ) (n : ℕ) : Type 0 where
   pub ways : List Way
   pub one-each : length ways ≡ length ds
   pub plain : (w : Way) → In w ways → Plain w
   pub bytes : AreBytes (tapeOf ds ways)
+  pub draws : map (λ (e : Entry). e .draw) (entries (tapeOf ds ways)) ≡ ds
   pub run-finds : (work ans : List ℕ) → Room m work ans → FoundWithin n (running m s (tapeOf ds ways) work ans)
 
 -- From a start s.
@@ -121,6 +134,6 @@ pub record Demand3From (m s : List ℕ) : Type 0 where
   pub bounded : (a : List ℕ) → Satisfies m a → (ds : List ℕ) → AreDraws ds → length ds ≡ differ (circuit m) s a
       → Finishing m s ds (differ (circuit m) s a)
 
--- "From every start that keeps an accepted map's codes"
+-- "From every start that keeps an accepted map's codes". What a satisfying assignment is says `MarkSays` of state, and what is counted `DifferIs` of circuit.
 abbrev pub Demand3 : Type 0
 Demand3 = (m s : List ℕ) → verdict m ≡ 0 → KeepsCodes (circuit m) s → Demand3From m s

@@ -76,6 +76,7 @@ moving m s entry work = movingBy (firstFailed (mapTests m ++ moveTests m s entry
 -- Of an accepted call: what its one entry does is `EntryDone`, document 01's move with the options of source document 001; the record and the two
 -- memories say so. (What `survey` says of a configuration is 001's: `SurveyIs001`.)
 pub record MoveMeans (m s entry work : List ℕ) (r : Moving) : Type 0 where
+  pub accepted : verdict m ≡ 0
   pub start : KeepsCodes (circuit m) s
   pub does : EntryDone (circuit m) s (entryAt entry 0)
   pub number : r .number ≡ 0
@@ -110,14 +111,14 @@ MoveTestsInOrder =
     → map (λ (t : ℕ × Bool). t .0) (mapTests m ++ moveTests m s entry work) ≡ 1 ∷ 2 ∷ 3 ∷ 4 ∷ 5 ∷ 6 ∷ 7 ∷ 8 ∷ 9 ∷ 10 ∷ 11 ∷ 12 ∷ 13 ∷ 14 ∷ 15 ∷ []
 
 -- Declined, it gives the number of the first that fails, "leaves all lent memory untouched; the other numbers of its answer .. are then 0".
-pub record Declined (s work : List ℕ) (n : ℕ) (r : Moving) : Type 0 where
+pub record MoveDeclined (s work : List ℕ) (n : ℕ) (r : Moving) : Type 0 where
   pub numbered : (¬ (n ≡ 0)) × (r .number ≡ n)
   pub zeros : (r .gate ≡ 0) × (r .turned ≡ 0)
   pub untouched : (r .configuration ≡ s) × (r .work ≡ work)
 
 abbrev pub MoveDeclines : Type 0
 MoveDeclines = (m s entry work : List ℕ) → moving m s entry work .accepted ≡ false
-    → Declined s work (firstFailed (mapTests m ++ moveTests m s entry work)) (moving m s entry work)
+    → MoveDeclined s work (firstFailed (mapTests m ++ moveTests m s entry work)) (moving m s entry work)
 
 -- ---- for inner functions
 

@@ -32,28 +32,28 @@ runTests m s tape work ans = startTests m s ++ tapeTests m tape work ans
 
 -- ---- Run
 
--- "A run's answer is one record: its ending, its moves and its flips", and the three lent memories after the call
+-- document 01's number and values of each case of an ending: whether the call is accepted, the number that declines it, and the front's size that Spent
+-- carries
+pub record Told : Type 0 where
+  pub accepted : Bool
+  pub number : ℕ
+  pub front : ℕ
+
+abbrev pub told : Ending → Told
+told Found = record { accepted = true; number = 0; front = 0 }
+told (Spent f) = record { accepted = true; number = 0; front = f }
+told (Refused n) = record { accepted = false; number = n; front = 0 }
+
+-- "A run's answer is one record: its ending, its moves and its flips", what the ending tells, and the three lent memories after the call
 pub record Running : Type 0 where
   pub outcome : Outcome
+  pub told : Told
   pub configuration : List ℕ
   pub work : List ℕ
   pub answer : List ℕ
 
--- Document 01's number and values of each ending: whether the call is accepted, the number that declines it, and the front's size that Spent carries
-abbrev pub acceptedBy : Ending → Bool
-acceptedBy Found = true
-acceptedBy (Spent f) = true
-acceptedBy (Refused n) = false
-
-abbrev pub numberOf : Ending → ℕ
-numberOf Found = 0
-numberOf (Spent f) = 0
-numberOf (Refused n) = n
-
-abbrev pub frontOf : Ending → ℕ
-frontOf Found = 0
-frontOf (Spent f) = f
-frontOf (Refused n) = 0
+abbrev pub gave : Outcome → List ℕ → List ℕ → List ℕ → Running
+gave o s w a = record { outcome = o; told = told (o .ending); configuration = s; work = w; answer = a }
 
 -- "Found writes the answer memory .. Spent leaves it untouched.": the answer memory after an ending, where x is what Found writes
 abbrev pub answered : Ending → List ℕ → List ℕ → List ℕ
@@ -63,12 +63,7 @@ answered (Refused n) x ans = ans
 
 -- "After either ending the configuration is the last one and the first bytes of the work memory, one per gate, are its survey."
 abbrev pub ran : Circuit → Ended → List ℕ → List ℕ → Running
-ran c r work ans = record {
-  outcome = r .outcome;
-  configuration = r .last;
-  work = over (survey c (r .last)) work;
-  answer = answered (r .outcome .ending) (answer c (r .last)) ans;
-}
+ran c r work ans = gave (r .outcome) (r .last) (over (survey c (r .last)) work) (answered (r .outcome .ending) (answer c (r .last)) ans)
 
 -- "the other numbers of its answer, as Run's moves and flips, are then 0"
 abbrev pub declined : ℕ → Outcome
@@ -79,7 +74,7 @@ unfoldable pub runningBy : ℕ → List ℕ → List ℕ → List ℕ → List �
 runningBy n m s tape work ans =
     cond (eqb n 0)
     (ran (circuit m) (run (circuit m) s (entries tape)) work ans)
-    (record { outcome = declined n; configuration = s; work = work; answer = ans })
+    (gave (declined n) s work ans)
 
 unfoldable pub running : List ℕ → List ℕ → List ℕ → List ℕ → List ℕ → Running
 running m s tape work ans = runningBy (firstFailed (mapTests m ++ runTests m s tape work ans)) m s tape work ans
@@ -102,7 +97,7 @@ pub record Runnable (m s tape work ans : List ℕ) : Type 0 where
   pub room : Room m work ans
 
 abbrev pub RunAccepts : Type 0
-RunAccepts = (m s tape work ans : List ℕ) → (acceptedBy (running m s tape work ans .outcome .ending) ≡ true) ↔ Runnable m s tape work ans
+RunAccepts = (m s tape work ans : List ℕ) → (running m s tape work ans .told .accepted ≡ true) ↔ Runnable m s tape work ans
 
 -- Its tests are those of numbers 1 to 14, in this order.
 abbrev pub RunTestsInOrder : Type 0
@@ -111,21 +106,17 @@ RunTestsInOrder =
     → map (λ (t : ℕ × Bool). t .0) (mapTests m ++ runTests m s tape work ans) ≡ 1 ∷ 2 ∷ 3 ∷ 4 ∷ 5 ∷ 6 ∷ 7 ∷ 8 ∷ 9 ∷ 10 ∷ 11 ∷ 12 ∷ 13 ∷ 14 ∷ []
 
 -- Declined, it gives the number of the first that fails, "leaves all lent memory untouched; the other numbers of its answer .. are then 0".
-pub record Declined (s work ans : List ℕ) (n : ℕ) (r : Running) : Type 0 where
-  pub numbered : (¬ (n ≡ 0)) × (numberOf (r .outcome .ending) ≡ n)
-  pub zeros : (r .outcome .moves ≡ 0) × ((r .outcome .flips ≡ 0) × (frontOf (r .outcome .ending) ≡ 0))
+pub record RunDeclined (s work ans : List ℕ) (n : ℕ) (r : Running) : Type 0 where
+  pub numbered : (¬ (n ≡ 0)) × (r .told .number ≡ n)
+  pub zeros : (r .outcome .moves ≡ 0) × ((r .outcome .flips ≡ 0) × (r .told .front ≡ 0))
   pub untouched : (r .configuration ≡ s) × ((r .work ≡ work) × (r .answer ≡ ans))
 
 abbrev pub RunDeclines : Type 0
-RunDeclines = (m s tape work ans : List ℕ) → acceptedBy (running m s tape work ans .outcome .ending) ≡ false
-    → Declined s work ans (firstFailed (mapTests m ++ runTests m s tape work ans)) (running m s tape work ans)
+RunDeclines = (m s tape work ans : List ℕ) → running m s tape work ans .told .accepted ≡ false
+    → RunDeclined s work ans (firstFailed (mapTests m ++ runTests m s tape work ans)) (running m s tape work ans)
 
 -- ---- for inner functions
 
 -- Run behind the map's tests
 unfoldable pub configurationRunning : List ℕ → List ℕ → List ℕ → List ℕ → List ℕ → Running
 configurationRunning m s tape work ans = runningBy (firstFailed (runTests m s tape work ans)) m s tape work ans
-
--- a run's record with the memories
-abbrev pub gave : Outcome → List ℕ → List ℕ → List ℕ → Running
-gave o s w a = record { outcome = o; configuration = s; work = w; answer = a }

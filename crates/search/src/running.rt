@@ -67,7 +67,7 @@ fn go(
             trial,
             scratch,
         );
-        front = cone::mark(map, gates, children, codes, s, marks);
+        front = step::settle(map, gates, children, codes, s, marks);
         moves += 1;
         flips += turn.turned;
         cursor = next;

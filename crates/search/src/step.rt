@@ -5,6 +5,7 @@ use super::greedy;
 use super::options;
 use circuit::Choice;
 use circuit::Entry;
+use survey::cone;
 ghost use mathlib.Core.Path.{_≡_};
 ghost use mathlib.Core.Bool.{false};
 ghost use Prim.Native.Nat.{_<_, _≤_};
@@ -103,4 +104,20 @@ pub fn entry(
         scratch,
     );
     Turn { gate: g, turned }
+}
+
+// Brings the marks up to date after values of s were turned, today by the full pass: they are the cone and front of s again. Returns the front's size.
+pub fn settle(
+    map: &[u8],
+    gates: usize,
+    children: usize,
+    codes: usize,
+    s: &[u8],
+    marks: &mut [u8],
+) -> u16
+    requires { ⌜ IsMap (now map) × ((gates ≡ gateCount (now map)) × ((children ≡ childCount (now map)) × (codes ≡ codeCount (now map)))) ⌝ }
+    requires { ⌜ (gates ≤ length (now s)) × (gates ≡ length (now marks)) ⌝ }
+    ensures { λ r. ⌜ (now (marks .exit) ≡ coneMarks (circuit (now (map .entry))) (now (s .entry))) × (r ≡ frontSize (circuit (now (map .entry))) (now (s .entry))) ⌝ }
+{
+    cone::mark(map, gates, children, codes, s, marks)
 }

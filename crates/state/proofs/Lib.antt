@@ -1,4 +1,5 @@
 pub mod Filling
+pub mod Over
 pub mod Marks
 pub mod Answers
 pub mod Meaning

@@ -1,25 +1,25 @@
 -- What Evaluate and Mark mean. Assumes nothing.
-use Prim.Native.Nat.{ℕ}
-use mathlib.Core.Path.{_≡_, sym, ap, _∙_}
-use mathlib.Core.Bool.{Bool, true, false≢true}
+use Prim.Native.Nat.{ℕ, _≤_}
+use mathlib.Core.Path.{_≡_, refl, sym, _∙_}
+use mathlib.Core.Bool.{Bool, true, false≢true, true≢false}
 use mathlib.Core.Logic.{inl, inr}
 use mathlib.Core.List.{List, _++_}
 use lib.Dec.{eqb, leb}
-use lib.ListN.{length, getD, take, drop}
-use lib.Seq.{take-at, drop-at}
-use borrow.Author.Tests.{eqb-true, eq-eqb, le-leb}
+use lib.ListN.{length, getD}
+use borrow.Author.Tests.{eqb-true, eqb-false, eq-eqb, leb-true, le-leb}
 use Rattle.folds.proofs.Tests.{which}
 use Rattle.folds.proofs.Loops.{all-of}
 use Rattle.circuit.specs.Circuit.{Configuration}
 use Rattle.circuit.specs.Evaluate.{inputsBefore, Row, evaluate, mark}
 use Rattle.circuit.proofs.Evaluate.{evaluate-is, mark-is}
 use Rattle.map.specs.Map.{gateCount, circuit}
-use Rattle.map.specs.Check.{firstFailed, mapTests, verdict}
+use Rattle.map.specs.Check.{firstFailed, contentsTests, bodiesTests, mapTests, verdict}
 use Rattle.map.proofs.Laws.{none-failed, past, no-test, passed-before}
 use Rattle.map.proofs.Accepted.{facts, well-formed}
 use Rattle.map.proofs.Answers.{behind-accepted}
-use Rattle.state.specs.State.{bitsTest, rowTests, configurationTests, over, evaluationBy, evaluation, EvaluateWrites, markingBy, marking, MarkSays}
+use Rattle.state.specs.State.{bitsTest, rowTests, configurationTests, over, evaluationBy, evaluation, EvaluateWrites, EvaluateAccepts, EvaluateTestsInOrder, EvaluateDeclines, markingBy, marking, MarkSays, MarkAccepts, MarkTestsInOrder, MarkDeclines}
 use Rattle.state.proofs.Filling.{bits-of}
+use Rattle.state.proofs.Over.{over-first, over-rest, over-long}
 
 -- ---- tests behind the map's
 
@@ -27,38 +27,73 @@ pub behind : (m : List ℕ) (b : List (ℕ × Bool)) → firstFailed (mapTests m
 unfolding verdict
 behind m b e = (let v = passed-before (mapTests m) b e in (v, sym (behind-accepted m b v) ∙ e))
 
+of-bits : (s : List ℕ) → ((i : ℕ) → getD s i 0 ≤ 1) → bitsTest s ≡ true
+unfolding bitsTest
+of-bits s k = all-of (λ i. leb (getD s i 0) 1) (length s) (λ i h. le-leb _ _ (k i))
+
 -- ---- Evaluate
 
-accepted-row : (m row out : List ℕ) → evaluation m row out .accepted ≡ true → firstFailed (mapTests m ++ rowTests m row out) ≡ 0
-unfolding evaluation evaluationBy
-accepted-row m row out e = elim (which (eqb (firstFailed (mapTests m ++ rowTests m row out)) 0)) [
-  | inl q ↦ eqb-true _ 0 q
-  | inr q ↦ absurd (false≢true (rw q at e))
-]
+module _ (m row out : List ℕ) where
+  abbrev row-number : ℕ
+  row-number = firstFailed (mapTests m ++ rowTests m row out)
 
-row-of : (m row out : List ℕ) → firstFailed (rowTests m row out) ≡ 0 → Row (circuit m) row
-unfolding rowTests inputsBefore
-row-of m row out e =
-    let t9 = none-failed 8 _ _ e in
-    let t10 = none-failed 9 _ _ (t9 .1) in
-    record { long = eqb-true _ _ (t9 .0); bits = bits-of row (t10 .0) }
+  none : evaluation m row out .accepted ≡ true → row-number ≡ 0
+  unfolding evaluation evaluationBy
+  none e = elim (which (eqb row-number 0)) [
+    | inl q ↦ eqb-true row-number 0 q
+    | inr q ↦ absurd (false≢true (rw q at e))
+  ]
 
-written : (m row out : List ℕ) → firstFailed (mapTests m ++ rowTests m row out) ≡ 0 → evaluation m row out .out ≡ over (evaluate (circuit m) row) out
-unfolding evaluation evaluationBy
-written m row out e = rw (eq-eqb _ 0 e)
+  accepted : row-number ≡ 0 → evaluation m row out .accepted ≡ true
+  unfolding evaluation evaluationBy
+  accepted e = rw (eq-eqb row-number 0 e)
+
+  written : row-number ≡ 0 → evaluation m row out .out ≡ over (evaluate (circuit m) row) out
+  unfolding evaluation evaluationBy
+  written e = rw (eq-eqb row-number 0 e)
+
+  row-of : firstFailed (rowTests m row out) ≡ 0 → Row (circuit m) row × (gateCount m ≤ length out)
+  unfolding rowTests inputsBefore
+  row-of e =
+      let t9 = none-failed 8 _ _ e in
+      let t10 = none-failed 9 _ _ (t9 .1) in
+      (record { long = eqb-true _ _ (t9 .0); bits = bits-of row (t10 .0) }, leb-true _ _ (none-failed 13 _ _ (t10 .1) .0))
+
+  of-row : Row (circuit m) row → gateCount m ≤ length out → firstFailed (rowTests m row out) ≡ 0
+  unfolding rowTests inputsBefore
+  of-row k l = past _ _ _ (eq-eqb _ _ (k .long)) ∙ past _ _ _ (of-bits row (k .bits)) ∙ past _ _ _ (le-leb _ _ l) ∙ no-test
 
 pub evaluate-writes : EvaluateWrites
 evaluate-writes m row out e =
-    let n = accepted-row m row out e in
+    let n = none m row out e in
     let (v, t) = behind m (rowTests m row out) n in
-    let (w, only) = evaluate-is (circuit m) (well-formed m (facts m v)) row (row-of m row out t) in
+    let (k, r) = row-of m row out t in
+    let (w, only) = evaluate-is (circuit m) (well-formed m (facts m v)) row k in
     let l : length (evaluate (circuit m) row) ≡ gateCount m = w .configuration .long in
-    let first : take (gateCount m) (evaluation m row out .out) ≡ evaluate (circuit m) row = rw (written m row out n) (take-at _ _ _ l) in
-    record {
+    let first = over-first (evaluate (circuit m) row) out (gateCount m) l in
+    rw (written m row out n) (record {
       values = rw first w;
-      only = λ s k. only s k ∙ sym first;
-      surplus = rw (written m row out n) (drop-at (evaluate (circuit m) row) (drop (length (evaluate (circuit m) row)) out) (gateCount m) l ∙ ap (λ (k : ℕ). drop k out) l);
-    }
+      only = λ s h. only s h ∙ sym first;
+      surplus = over-rest (evaluate (circuit m) row) out (gateCount m) l;
+      long = over-long (evaluate (circuit m) row) out (gateCount m) l r;
+    })
+
+pub evaluate-accepts : EvaluateAccepts
+evaluate-accepts m row out = (
+  λ e. (let (v, t) = behind m (rowTests m row out) (none m row out e) in (v, row-of m row out t)),
+  λ a. accepted m row out (behind-accepted m _ (a .0) ∙ of-row m row out (a .1 .0) (a .1 .1)),
+)
+
+pub evaluate-tests-in-order : EvaluateTestsInOrder
+unfolding mapTests contentsTests bodiesTests rowTests
+evaluate-tests-in-order m row out = refl
+
+pub evaluate-declines : EvaluateDeclines
+unfolding evaluation evaluationBy
+evaluate-declines m row out e = elim (which (eqb (row-number m row out) 0)) [
+  | inl q ↦ absurd (true≢false (rw q at e))
+  | inr q ↦ rw q (record { numbered = (eqb-false (row-number m row out) 0 q, refl); untouched = refl })
+]
 
 -- ---- Mark
 
@@ -80,9 +115,8 @@ configuration-of m s e =
     record { long = eqb-true _ _ (t9 .0); bits = bits-of s (none-failed 9 _ _ (t9 .1) .0) }
 
 pub of-configuration : (m s : List ℕ) → Configuration (circuit m) s → firstFailed (configurationTests m s) ≡ 0
-unfolding configurationTests bitsTest
-of-configuration m s k =
-    past _ _ _ (eq-eqb _ _ (k .long)) ∙ past _ _ _ (all-of (λ i. leb (getD s i 0) 1) (length s) (λ i h. le-leb _ _ (k .bits i))) ∙ no-test
+unfolding configurationTests
+of-configuration m s k = past _ _ _ (eq-eqb _ _ (k .long)) ∙ past _ _ _ (of-bits s (k .bits)) ∙ no-test
 
 pub mark-says : MarkSays
 mark-says m s = (
@@ -90,3 +124,24 @@ mark-says m s = (
       (v, mark-is (circuit m) s (configuration-of m s t) .0 q)),
   λ a. says-yes m s (behind-accepted m _ (a .0) ∙ of-configuration m s (a .1 .configuration)) (mark-is (circuit m) s (a .1 .configuration) .1 (a .1)),
 )
+
+pub mark-accepts : MarkAccepts
+unfolding marking markingBy
+mark-accepts m s = (
+  λ e. elim (which (eqb (firstFailed (mapTests m ++ configurationTests m s)) 0)) [
+    | inl q ↦ (let (v, t) = behind m (configurationTests m s) (eqb-true _ 0 q) in (v, configuration-of m s t))
+    | inr q ↦ absurd (false≢true (rw q at e))
+  ],
+  λ a. rw (eq-eqb _ 0 (behind-accepted m _ (a .0) ∙ of-configuration m s (a .1))),
+)
+
+pub mark-tests-in-order : MarkTestsInOrder
+unfolding mapTests contentsTests bodiesTests configurationTests
+mark-tests-in-order m s = refl
+
+pub mark-declines : MarkDeclines
+unfolding marking markingBy
+mark-declines m s e = elim (which (eqb (firstFailed (mapTests m ++ configurationTests m s)) 0)) [
+  | inl q ↦ absurd (true≢false (rw q at e))
+  | inr q ↦ rw q (record { numbered = (eqb-false _ 0 q, refl); no = refl })
+]

@@ -3,11 +3,12 @@ use Prim.Native.Nat.{ℕ, _≤_}
 use mathlib.Core.Path.{_≡_}
 use mathlib.Core.Logic.{_↔_}
 use mathlib.Core.Bool.{Bool, true, false, cond}
-use mathlib.Core.List.{List, [], _∷_, _++_}
+use mathlib.Core.List.{List, [], _∷_, _++_, map}
 use lib.ListN.{length, getD, take, drop}
 use lib.Dec.{eqb, leb}
 use Rattle.folds.specs.Folds.{allBelow}
-use Rattle.circuit.specs.Evaluate.{evaluate, mark, Evaluated, Satisfying}
+use Rattle.circuit.specs.Circuit.{Configuration}
+use Rattle.circuit.specs.Evaluate.{Row, evaluate, mark, Evaluated, Satisfying}
 use Rattle.map.specs.Map.{gateCount, codeCount, codeGate, codeValue, circuit, inputCount}
 use Rattle.map.specs.Check.{firstFailed, mapTests, verdict}
 use Rattle.state.specs.declared.Written.{Written}
@@ -88,17 +89,55 @@ marking m s = markingBy (firstFailed (mapTests m ++ configurationTests m s)) m s
 -- ---- what they mean
 
 -- The first bytes of the output memory, one per gate, are the one configuration that obeys every gate and has the row's values; the surplus stands.
-pub record Wrote (m row out after : List ℕ) : Type 0 where
+pub record EvaluateMeans (m row out after : List ℕ) : Type 0 where
   pub values : Evaluated (circuit m) row (take (gateCount m) after)
   pub only : (s : List ℕ) → Evaluated (circuit m) row s → s ≡ take (gateCount m) after
   pub surplus : drop (gateCount m) after ≡ drop (gateCount m) out
+  pub long : length after ≡ length out
 
 abbrev pub EvaluateWrites : Type 0
-EvaluateWrites = (m row out : List ℕ) → evaluation m row out .accepted ≡ true → Wrote m row out (evaluation m row out .out)
+EvaluateWrites = (m row out : List ℕ) → evaluation m row out .accepted ≡ true → EvaluateMeans m row out (evaluation m row out .out)
 
 -- Mark says yes exactly to the satisfying assignments of accepted maps.
 abbrev pub MarkSays : Type 0
 MarkSays = (m s : List ℕ) → (marking m s .yes ≡ true) ↔ ((verdict m ≡ 0) × Satisfying (circuit m) s)
+
+-- ---- which calls are accepted
+
+-- Evaluate is accepted exactly for accepted maps, rows, and memory that is long enough; Mark for accepted maps and configurations.
+abbrev pub EvaluateAccepts : Type 0
+EvaluateAccepts =
+    (m row out : List ℕ) → (evaluation m row out .accepted ≡ true) ↔ ((verdict m ≡ 0) × (Row (circuit m) row × (gateCount m ≤ length out)))
+
+abbrev pub MarkAccepts : Type 0
+MarkAccepts = (m s : List ℕ) → (marking m s .accepted ≡ true) ↔ ((verdict m ≡ 0) × Configuration (circuit m) s)
+
+-- Their tests are those of these numbers, in this order.
+abbrev pub EvaluateTestsInOrder : Type 0
+EvaluateTestsInOrder =
+    (m row out : List ℕ)
+    → map (λ (t : ℕ × Bool). t .0) (mapTests m ++ rowTests m row out) ≡ 1 ∷ 2 ∷ 3 ∷ 4 ∷ 5 ∷ 6 ∷ 7 ∷ 8 ∷ 9 ∷ 10 ∷ 14 ∷ []
+
+abbrev pub MarkTestsInOrder : Type 0
+MarkTestsInOrder =
+    (m s : List ℕ)
+    → map (λ (t : ℕ × Bool). t .0) (mapTests m ++ configurationTests m s) ≡ 1 ∷ 2 ∷ 3 ∷ 4 ∷ 5 ∷ 6 ∷ 7 ∷ 8 ∷ 9 ∷ 10 ∷ []
+
+-- Declined, they give the number of the first that fails, Evaluate "leaves all lent memory untouched", and Mark's answer is no.
+pub record EvaluateDeclined (out : List ℕ) (n : ℕ) (r : Evaluation) : Type 0 where
+  pub numbered : (¬ (n ≡ 0)) × (r .number ≡ n)
+  pub untouched : r .out ≡ out
+
+abbrev pub EvaluateDeclines : Type 0
+EvaluateDeclines = (m row out : List ℕ) → evaluation m row out .accepted ≡ false
+    → EvaluateDeclined out (firstFailed (mapTests m ++ rowTests m row out)) (evaluation m row out)
+
+pub record MarkDeclined (n : ℕ) (r : Marking) : Type 0 where
+  pub numbered : (¬ (n ≡ 0)) × (r .number ≡ n)
+  pub no : r .yes ≡ false
+
+abbrev pub MarkDeclines : Type 0
+MarkDeclines = (m s : List ℕ) → marking m s .accepted ≡ false → MarkDeclined (firstFailed (mapTests m ++ configurationTests m s)) (marking m s)
 
 -- ---- for inner functions
 

@@ -1,25 +1,25 @@
 -- What Survey means. Assumes nothing.
 use Prim.Native.Nat.{ℕ}
-use mathlib.Core.Path.{_≡_, refl, sym, ap, _∙_}
+use mathlib.Core.Path.{_≡_, refl, sym, _∙_}
 use mathlib.Core.Bool.{true, false≢true, true≢false}
 use mathlib.Core.Logic.{inl, inr}
 use mathlib.Core.List.{List, _++_}
 use native.Mathlib.Omega.{arith}
 use lib.Dec.{eqb, leb}
-use lib.ListN.{length, drop, length-append, length-drop, List·getD-append}
-use lib.Seq.{drop-at}
+use lib.ListN.{length, List·getD-append}
 use borrow.Author.Tests.{eqb-true, eqb-false, eq-eqb, leb-true, le-leb}
 use Rattle.folds.proofs.Tests.{which}
 use Rattle.circuit.specs.Survey.{survey, frontSize, interestSize}
 use Rattle.circuit.proofs.Survey.{survey-is}
 use Rattle.map.specs.Map.{gateCount, circuit}
-use Rattle.map.specs.Check.{firstFailed, mapTests}
+use Rattle.map.specs.Check.{firstFailed, contentsTests, bodiesTests, mapTests}
 use Rattle.map.proofs.Laws.{past, no-test, none-failed, passed-before}
 use Rattle.map.proofs.Accepted.{facts, well-formed}
 use Rattle.map.proofs.Answers.{behind-accepted}
-use Rattle.state.specs.State.{over}
+use Rattle.state.specs.State.{configurationTests, over}
+use Rattle.state.proofs.Over.{over-rest, over-long}
 use Rattle.state.proofs.Meaning.{behind}
-use Rattle.survey.specs.Survey.{startTests, surveyTests, surveyingBy, surveying, SurveyWrites, SurveyAccepts, SurveyDeclines}
+use Rattle.survey.specs.Survey.{startTests, surveyTests, surveyingBy, surveying, SurveyWrites, SurveyAccepts, SurveyTestsInOrder, SurveyDeclines}
 use Rattle.survey.proofs.Starts.{behind-start, start-of, of-start}
 
 module _ (m s out : List ℕ) where
@@ -57,9 +57,11 @@ survey-writes m s out e =
     let (k, r) = room m s out t in
     let f = survey-is (circuit m) (well-formed m (facts m v)) s in
     let l : length (survey (circuit m) s) ≡ gateCount m = f .long in
+    let long = over-long (survey (circuit m) s) out (gateCount m) l (leb-true (gateCount m) (length out) r) in
     rw (written m s out n) (record {
+      accepted = v;
       start = start-of m s k;
-      room = simp (length-append, length-drop) (omega (arith, leb-true (gateCount m) (length out) r));
+      room = omega (arith, long, leb-true (gateCount m) (length out) r);
       bytes = λ g h. record {
         cone = _;
         front = _;
@@ -69,8 +71,8 @@ survey-writes m s out e =
         front-is = f .front-is g h;
         interest-is = f .interest-is g h;
       };
-      surplus = drop-at (survey (circuit m) s) _ (gateCount m) l ∙ ap (λ (i : ℕ). drop i out) l;
-      long = simp (length-append, length-drop) (omega (arith, leb-true (gateCount m) (length out) r));
+      surplus = over-rest (survey (circuit m) s) out (gateCount m) l;
+      long = long;
       front-size = f .front-size;
       interest-size = f .interest-size;
     })
@@ -81,9 +83,13 @@ survey-accepts m s out = (
   λ a. accepted m s out (behind-accepted m _ (a .0) ∙ of-room m s out (of-start m s (a .1 .0)) (le-leb (gateCount m) (length out) (a .1 .1))),
 )
 
+pub survey-tests-in-order : SurveyTestsInOrder
+unfolding mapTests contentsTests bodiesTests surveyTests startTests configurationTests
+survey-tests-in-order m s out = refl
+
 pub survey-declines : SurveyDeclines
 unfolding surveying surveyingBy
 survey-declines m s out e = elim (which (eqb (number m s out) 0)) [
   | inl q ↦ absurd (true≢false (rw q at e))
-  | inr q ↦ rw q (record { numbered = eqb-false (number m s out) 0 q; sizes = (refl, refl); untouched = refl })
+  | inr q ↦ rw q (record { numbered = (eqb-false (number m s out) 0 q, refl); zeros = (refl, refl); untouched = refl })
 ]

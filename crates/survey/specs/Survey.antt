@@ -3,7 +3,7 @@ use Prim.Native.Nat.{ℕ, _+_, _*_, _<_, _≤_}
 use mathlib.Core.Path.{_≡_}
 use mathlib.Core.Logic.{_↔_}
 use mathlib.Core.Bool.{Bool, true, false, cond}
-use mathlib.Core.List.{List, [], _∷_, _++_}
+use mathlib.Core.List.{List, [], _∷_, _++_, map}
 use lib.ListN.{length, getD, drop}
 use lib.Dec.{eqb, leb}
 use Rattle.folds.specs.Folds.{allBelow}
@@ -72,6 +72,7 @@ pub record SurveyByte (b : ℕ) (InCone InFront IsInteresting : Type 0) : Type 0
 
 -- The bytes and sizes are those of 001's cone, front and interest set (with document 01's two differences); the surplus stands.
 pub record SurveyMeans (m s out : List ℕ) (r : Surveying) : Type 0 where
+  pub accepted : verdict m ≡ 0
   pub start : KeepsCodes (circuit m) s
   pub room : gateCount m ≤ length (r .out)
   pub bytes : (g : ℕ) → g < gateCount m → SurveyByte (getD (r .out) g 0) (Cone (circuit m) s g) (Front (circuit m) s g) (Interesting (circuit m) s g)
@@ -88,14 +89,21 @@ abbrev pub SurveyAccepts : Type 0
 SurveyAccepts =
     (m s out : List ℕ) → (surveying m s out .accepted ≡ true) ↔ ((verdict m ≡ 0) × (KeepsCodes (circuit m) s × (gateCount m ≤ length out)))
 
--- Declined, it gives a number, "leaves all lent memory untouched; the other numbers of its answer .. are then 0".
-pub record Declined (out : List ℕ) (r : Surveying) : Type 0 where
-  pub numbered : ¬ (r .number ≡ 0)
-  pub sizes : (r .front ≡ 0) × (r .interest ≡ 0)
+-- Its tests are those of these numbers, in this order.
+abbrev pub SurveyTestsInOrder : Type 0
+SurveyTestsInOrder =
+    (m s out : List ℕ)
+    → map (λ (t : ℕ × Bool). t .0) (mapTests m ++ surveyTests m s out) ≡ 1 ∷ 2 ∷ 3 ∷ 4 ∷ 5 ∷ 6 ∷ 7 ∷ 8 ∷ 9 ∷ 10 ∷ 11 ∷ 14 ∷ []
+
+-- Declined, it gives the number of the first that fails, "leaves all lent memory untouched; the other numbers of its answer .. are then 0".
+pub record SurveyDeclined (out : List ℕ) (n : ℕ) (r : Surveying) : Type 0 where
+  pub numbered : (¬ (n ≡ 0)) × (r .number ≡ n)
+  pub zeros : (r .front ≡ 0) × (r .interest ≡ 0)
   pub untouched : r .out ≡ out
 
 abbrev pub SurveyDeclines : Type 0
-SurveyDeclines = (m s out : List ℕ) → surveying m s out .accepted ≡ false → Declined out (surveying m s out)
+SurveyDeclines = (m s out : List ℕ) → surveying m s out .accepted ≡ false
+    → SurveyDeclined out (firstFailed (mapTests m ++ surveyTests m s out)) (surveying m s out)
 
 -- ---- for inner functions
 

@@ -1,28 +1,27 @@
-use Rattle.circuit.specs.Run.{move}
-use borrow.Author.Tests.{leb-true}
-use mathlib.Core.Bool.{true, false}
-use mathlib.Core.Logic.{inl, inr}
-use Prim.Native.Nat.{_+_, _-_, _≤_}
-use lib.Dec.{leb}
-use Rattle.folds.proofs.Tests.{which}
-use Rattle.search.specs.Tape.{entryAt}
-use Rattle.search.proofs.Runs.{Going, run-begins, run-finds, run-spends, run-goes, step-goes, step-has}
 use denote.Ref.{now}
 use native.Mathlib.Omega.{arith}
-use Prim.Native.Nat.{_-_}
+use Prim.Native.Nat.{_+_, _-_, _≤_}
 use mathlib.Core.Path.{_≡_, refl, sym, _∙_}
+use mathlib.Core.Bool.{true, false}
+use mathlib.Core.Logic.{inl, inr}
 use lib.ListN.{length}
+use lib.Dec.{leb}
+use borrow.Author.Tests.{leb-true}
+use Rattle.folds.proofs.Tests.{which}
 use Rattle.circuit.specs.Survey.{frontSize}
+use Rattle.circuit.specs.Run.{move}
 use Rattle.map.specs.Map.{circuit}
 use Rattle.map.proofs.Accepted.{well-formed}
 use Rattle.survey.specs.Marks.{coneMarks}
-use Rattle.search.proofs.Runs.{Going, run-begins, run-finds, run-spends, run-goes}
+use Rattle.search.specs.Tape.{entryAt}
+use Rattle.search.proofs.Runs.{Going, run-begins, run-finds, run-spends, run-goes, step-goes, step-has}
 use borrow.Author.Needs.{needs}
 use Rattle.search.proofs.running.go.Statement.{statement}
 use Rattle.search.proofs.running.go.Tie as tie
 use Rattle.search.proofs.running.go.Reads as reads
 use Rattle.search.proofs.running.go.Lts as lts
 use Rattle.search.proofs.step.entry.Reads as entry-reads
+use Rattle.search.proofs.step.settle.Reads as settle-reads
 use Rattle.search.proofs.tape.Cursor.step.Reads as step-reads
 use Rattle.survey.proofs.cone.mark.Reads as mark-reads
 
@@ -79,8 +78,8 @@ entry-requires c κs = let s = c .before .before .before .before .before .before
     let i = c .before .before .before .before .before .before .before .before .before .loop .inv in
     (s .pre .0, ((omega (arith, i .1 .1 .1 .0, s .pre .1 .1 .0 .0 .configuration .long), (omega arith, omega arith)), ((i .1 .0, (i .1 .1 .0, omega arith)), s .pre .1 .1 .1)))
 
-mark-requires-2 : tie.Need-mark-requires-2 Inv-loop μ-loop
-mark-requires-2 c κs = let s = c .before .before .before .before .before .before .before .before .before .before .before .before .before .before .before .before .before .before .before .before .before .before .before .before .before .before .before .before .before .before .before in
+settle-requires : tie.Need-settle-requires Inv-loop μ-loop
+settle-requires c κs = let s = c .before .before .before .before .before .before .before .before .before .before .before .before .before .before .before .before .before .before .before .before .before .before .before .before .before .before .before .before .before .before .before in
     let i = c .before .before .before .before .before .before .before .before .before .before .before .before .before .before .before .before .before .before .loop .inv in
     let n = s .pre .1 .1 .0 .0 .configuration .long in
     (s .pre .0, (omega (arith, c .before .before .before .before .before .before .before .before .entry .kept .1 .1 .1 .1 .1 .1 .1 .1 .0, i .1 .1 .1 .0, n), omega (arith, i .1 .1 .1 .1 .1 .1, c .before .before .before .before .before .before .before .before .before .before .before .before .before .before .before .before .before .before .before .before .before .mark .kept .1 .1 .1 .1 .1 .0, s .pre .1 .0 .0)))
@@ -97,7 +96,7 @@ loop-less c = let h = stepped (c .before .before .before .before .before .before
 loop-again : tie.Need-loop-again Inv-loop μ-loop
 loop-again c = let l = c .before .before .before .before .before .before .before .before .before .before .before .before .before .before .before .before .before .before .before .before .before .before .loop in
     let e = c .before .before .before .before .before .before .before .before .before .before .before .before .entry .ensures in
-    let w = c .before .before .before .mark2 .ensures in (
+    let w = c .before .before .before .settle .ensures in (
       rw (e .1 .0, e .1 .1) (goes (c .before .before .before .before .before .before .before .before .before .before .before .before .before .before .before .before .before .before)),
       (
         w .0,
@@ -107,7 +106,7 @@ loop-again c = let l = c .before .before .before .before .before .before .before
             c .before .before .before .before .before .before .before .before .before .before .before .before .entry .kept .1 .1 .1 .1 .1 .1 .1 .1 .0 ∙ l .inv .1 .1 .1 .0,
             (
               c .before .before .before .before .before .before .before .before .before .before .before .before .entry .kept .1 .1 .1 .1 .1 .1 .1 .1 .1 .0 ∙ l .inv .1 .1 .1 .1 .0,
-              (c .before .before .before .before .before .before .before .before .before .before .before .before .entry .kept .1 .1 .1 .1 .1 .1 .1 .1 .1 .1 .0 ∙ l .inv .1 .1 .1 .1 .1 .0, c .before .before .before .mark2 .kept .1 .1 .1 .1 .1 .0 ∙ l .inv .1 .1 .1 .1 .1 .1),
+              (c .before .before .before .before .before .before .before .before .before .before .before .before .entry .kept .1 .1 .1 .1 .1 .1 .1 .1 .1 .1 .0 ∙ l .inv .1 .1 .1 .1 .1 .0, c .before .before .before .settle .kept .1 .1 .1 .1 .1 .0 ∙ l .inv .1 .1 .1 .1 .1 .1),
             ),
           ),
         ),
@@ -137,7 +136,7 @@ go-spec =
     (λ c. search needs)
     returns
     entry-requires
-    mark-requires-2
+    settle-requires
     add-moves
     add-flips
     loop-less

@@ -7,7 +7,7 @@ use lib.Dec.{leb}
 use lib.ListN.{length, getD}
 use borrow.Author.Tests.{le-leb, lt-leb}
 use Rattle.folds.specs.Folds.{allBelow}
-use Rattle.folds.proofs.Loops.{all-more, all-fails, loops-of}
+use Rattle.folds.proofs.Loops.{all-more, all-fails, all-done, loops-of}
 use Rattle.search.specs.Tape.{kindsTest}
 use borrow.Author.Needs.{needs}
 use Rattle.search.proofs.tape.kinds_ok.Statement.{statement}
@@ -40,7 +40,7 @@ loop-again c = let l = c .before .before .before .loop in (search needs, all-mor
 
 returns-2 : tie.Need-returns-2 Inv-loop μ-loop
 unfolding kindsTest
-returns-2 c = search (needs, loops-of)
+returns-2 c = let l = c .before .loop in all-done _ (l .i) _ (l .inv .1) (omega (arith, l .inv .0)) (omega arith)
 
 pub kinds-ok-spec : {M : Type 1} → statement M
 kinds-ok-spec =
