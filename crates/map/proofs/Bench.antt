@@ -7,11 +7,11 @@ use Rattle.circuit.specs.Bench.{adder}
 use Rattle.map.specs.Map.{u16At, fanInsBefore, codeAmong, kidsOf}
 use Rattle.map.specs.Check.{offsetsTest, kindFits, kindTest, positionTest, positionsTest, childTest, childrenTest, codeTest, freeTest, firstFailed, contentsTests, bodiesTests, mapTests, verdict, checked}
 use Rattle.map.specs.Children.{hasGate, stretchAt, stretchLength}
-use Rattle.map.specs.Bench.{adderBytes, gapBytes, twoCodesBytes, Examples}
+use Rattle.map.specs.Bench.{adderBytes, gapBytes, twoCodesBytes, wideBytes, Examples}
 
 -- every definition that the examples compute with, under one name
 opened : ℕ
-unfolding _and_ _or_ allBelow inputsBefore adder u16At fanInsBefore codeAmong kidsOf offsetsTest kindFits kindTest positionTest positionsTest childTest childrenTest codeTest freeTest firstFailed contentsTests bodiesTests mapTests verdict checked hasGate stretchAt stretchLength adderBytes gapBytes twoCodesBytes
+unfolding _and_ _or_ allBelow inputsBefore adder u16At fanInsBefore codeAmong kidsOf offsetsTest kindFits kindTest positionTest positionsTest childTest childrenTest codeTest freeTest firstFailed contentsTests bodiesTests mapTests verdict checked hasGate stretchAt stretchLength adderBytes gapBytes twoCodesBytes wideBytes
 opened = 0
 
 pub examples : Examples
@@ -29,6 +29,8 @@ examples = record {
   kind-5 = refl;
   fan-ins = (refl, refl);
   fan-ins-others = (refl, (refl, (refl, refl)));
+  wide = (refl, refl);
+  too-wide = refl;
   position = refl;
   input-position = (refl, refl);
   kind-first = refl;

@@ -158,14 +158,18 @@ sound-of m p a b = record {
   coded-gate = λ r l. ltb-true _ _ (and-left _ _ (and-left _ _ (and-left _ _ (all-at (codeTest m) (codeCount m) r b l))));
 }
 
--- what the tests on the contents say where none fails
-pub contents-passed : (m : List ℕ) → firstFailed (contentsTests m) ≡ 0 → (12 ≤ length m) × Shaped m
+-- the tests on the contents, one by one, where none fails
+pub contents-tests : (m : List ℕ) → firstFailed (contentsTests m) ≡ 0
+    → (leb 12 (length m) ≡ true) × (leb 1 (gateCount m) and leb (gateCount m) 1024 ≡ true) × (offsetsTest m ≡ true)
 unfolding contentsTests
-contents-passed m e =
+contents-tests m e =
     let t1 = none-failed 0 _ _ e in
     let t2 = none-failed 1 _ _ (t1 .1) in
-    let t3 = none-failed 2 _ _ (t2 .1) in
-    (leb-true _ _ (t1 .0), shaped-of m (leb-true _ _ (and-right _ _ (t2 .0))) (t3 .0))
+    (t1 .0, t2 .0, none-failed 2 _ _ (t2 .1) .0)
+
+-- and what they say
+pub contents-passed : (m : List ℕ) → firstFailed (contentsTests m) ≡ 0 → (12 ≤ length m) × Shaped m
+contents-passed m e = (let (t1, t2, t3) = contents-tests m e in (leb-true _ _ t1, shaped-of m (leb-true _ _ (and-right _ _ t2)) t3))
 
 fails-first : (a b : List (ℕ × Bool)) (k : ℕ) → firstFailed a ≡ suc k → firstFailed (a ++ b) ≡ suc k
 unfolding firstFailed
@@ -203,5 +207,4 @@ passed-before a b q = elim (which (eqb (firstFailed a) 0)) [
 ]
 
 pub contents-some : (m : List ℕ) → firstFailed (contentsTests m) ≡ 0 → 1 ≤ gateCount m
-unfolding contentsTests
-contents-some m e = leb-true _ _ (and-left _ _ (none-failed 1 _ _ (none-failed 0 _ _ e .1) .0))
+contents-some m e = leb-true _ _ (and-left _ _ (contents-tests m e .1))

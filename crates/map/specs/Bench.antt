@@ -1,5 +1,5 @@
 -- Document 01, 'Bench examples' (the adder) and 'When a call is declined', as far as Check and Children go: what the definitions say of the adder's
--- bytes, of two more maps, and of versions with a byte changed. antt computes them. Assumes nothing.
+-- bytes, of three more maps, and of versions with a byte changed. antt computes them. Assumes nothing.
 use Prim.Native.Nat.{ℕ, _+_}
 use mathlib.Core.Path.{_≡_}
 use mathlib.Core.Bool.{true, false}
@@ -40,6 +40,14 @@ twoCodesBytes =
     four 0 0 1 0 (four 2 0 0 0 (2 ∷ 0 ∷ (
     four 3 0 1 0 (four 4 0 1 0 []))))))))))))
 
+-- 0 to 7 inputs, 8 AND of all, code 8 = 1
+unfoldable pub wideBytes : List ℕ
+wideBytes =
+    four 12 0 9 0 (four 48 0 8 0 (four 64 0 1 0 (
+    four 0 0 0 0 (four 0 0 0 0 (four 0 0 0 0 (four 0 0 0 0 (four 0 0 0 0 (four 0 0 0 0 (four 0 0 0 0 (four 0 0 0 0 (four 2 8 0 0 (
+    four 0 0 1 0 (four 2 0 3 0 (four 4 0 5 0 (four 6 0 7 0 (
+    four 8 0 1 0 []))))))))))))))))
+
 -- m with another byte at a place
 abbrev pub withByte : ℕ → ℕ → List ℕ → List ℕ
 withByte at b m = take at m ++ (b ∷ drop (at + 1) m)
@@ -68,6 +76,9 @@ pub record Examples : Type 0 where
   pub kind-5 : verdict (withByte 40 5 adderBytes) ≡ 4
   pub fan-ins : (verdict (withByte 41 1 adderBytes) ≡ 4) × (verdict (withByte 41 9 adderBytes) ≡ 4)
   pub fan-ins-others : (verdict (withByte 13 1 adderBytes) ≡ 4) × ((verdict (withByte 25 3 adderBytes) ≡ 4) × ((verdict (withByte 29 1 adderBytes) ≡ 4) × (verdict (withByte 17 2 gapBytes) ≡ 4)))
+  -- fan-in 8 is accepted, 9 gives 4
+  pub wide : (verdict wideBytes ≡ 0) × (checked wideBytes ≡ record { accepted = true; number = 0; gates = 9; inputs = 8; children = 8; codes = 1 })
+  pub too-wide : verdict (withByte 45 9 wideBytes) ≡ 4
   -- 5: gate 7 at 9; an input, whose first child position counts too; gate 3 at 1 where gate 7 has kind 5 is still 4; an OR of 3
   pub position : verdict (withByte 42 9 adderBytes) ≡ 5
   pub input-position : (verdict gapBytes ≡ 0) × (verdict (withByte 22 0 gapBytes) ≡ 5)

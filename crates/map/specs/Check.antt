@@ -1,8 +1,10 @@
--- Document 01, 'When a call is declined', tests 1 to 8, and Check. Assumes nothing.
+-- Document 01, 'When a call is declined', tests 1 to 8, Check, and which maps it accepts. Assumes nothing.
 use Prim.Native.Nat.{ℕ, _+_, _-_, _<_, _≤_}
 use mathlib.Core.Path.{_≡_}
+use mathlib.Core.Logic.{_↔_}
 use mathlib.Core.Bool.{Bool, true, false, cond, not}
-use mathlib.Core.List.{List, [], _∷_, _++_}
+use mathlib.Core.Option.{some}
+use mathlib.Core.List.{List, [], _∷_, _++_, map}
 use lib.ListN.{length, getD}
 use lib.Dec.{eqb, leb, ltb}
 use Rattle.folds.specs.Folds.{_and_, _or_, allBelow}
@@ -100,6 +102,51 @@ checked m =
     (record { accepted = true; number = 0; gates = gateCount m; inputs = inputCount m; children = childCount m; codes = codeCount m })
     (record { accepted = false; number = verdict m; gates = 0; inputs = 0; children = 0; codes = 0 })
 
+-- ---- which maps are accepted
+
+-- A map as the section 'The map' describes it.
+pub record Drawn (m : List ℕ) : Type 0 where
+  -- "The contents are six u16"
+  pub contents : 12 ≤ length m
+  -- "A map has 1 to 1,024 gates"
+  pub gates : (1 ≤ gateCount m) × (gateCount m ≤ 1024)
+  -- "so the offsets are 12, 12 + 4 × gates, and that plus 2 × children; the length is the last offset plus 4 × codes"
+  pub offsets : (u16At m 0 ≡ 12) × ((u16At m 4 ≡ childrenAt m) × (u16At m 8 ≡ codesAt m))
+  pub length-is : length m ≡ lengthGiven m
+  -- "Kinds: 0 input, 1 NOT, 2 AND, 3 OR, 4 XOR. Fan-in: 0 for an input, 1 for NOT, 2 for XOR, 2 to 8 for AND and OR.": the table is `fanInFits` of
+  -- circuit's Gate
+  pub kinds : (g : ℕ) → g < gateCount m → (kindByte m g ≤ lastKind) × (fanInFits (kindOf (kindByte m g)) (fanIn m g) ≡ true)
+  -- "The first child position is the sum of all earlier fan-ins, for inputs too; the total of all fan-ins is the child count."
+  pub positions : (g : ℕ) → g < gateCount m → firstChild m g ≡ fanInsBefore m g
+  pub total : fanInsBefore m (gateCount m) ≡ childCount m
+  -- A child "is below its parent's number, and a gate's children strictly ascend."
+  pub children-below : (g j : ℕ) → g < gateCount m → j < fanIn m g → childAt m g j < g
+  pub children-ascend : (g j : ℕ) → g < gateCount m → j + 1 < fanIn m g → childAt m g j < childAt m g (j + 1)
+  -- "Code record, 4 bytes: gate (u16), value 0 or 1, and a zero byte.": its gate is one of the map's
+  pub code-gates : (r : ℕ) → r < codeCount m → codeGate m r < gateCount m
+  pub code-values : (r : ℕ) → r < codeCount m → codeValue m r ≤ 1
+  pub code-zeros : (r : ℕ) → r < codeCount m → codeZero m r ≡ 0
+  -- "Codes strictly ascend by gate."
+  pub codes-ascend : (r : ℕ) → r + 1 < codeCount m → codeGate m r < codeGate m (r + 1)
+  -- "A coded gate is nobody's child."
+  pub free : (g j r : ℕ) → g < gateCount m → j < fanIn m g → r < codeCount m → ¬ (childAt m g j ≡ codeGate m r)
+
+-- Check accepts exactly such maps.
+abbrev pub MapAccepts : Type 0
+MapAccepts = (m : List ℕ) → (verdict m ≡ 0) ↔ Drawn m
+
+-- Its tests are those of numbers 1 to 8, in this order.
+abbrev pub MapTestsInOrder : Type 0
+MapTestsInOrder = (m : List ℕ) → map (λ (t : ℕ × Bool). t .0) (mapTests m) ≡ 1 ∷ 2 ∷ 3 ∷ 4 ∷ 5 ∷ 6 ∷ 7 ∷ 8 ∷ []
+
+-- A declined map gives the number of the first that fails, and "the other numbers of its answer .. are then 0".
+pub record MapDeclined (m : List ℕ) (r : Said) : Type 0 where
+  pub numbered : (¬ (verdict m ≡ 0)) × (r .number ≡ verdict m)
+  pub zeros : (r .gates ≡ 0) × ((r .inputs ≡ 0) × ((r .children ≡ 0) × (r .codes ≡ 0)))
+
+abbrev pub MapDeclines : Type 0
+MapDeclines = (m : List ℕ) → checked m .accepted ≡ false → MapDeclined m (checked m)
+
 -- ---- what inner functions go by
 
 -- what is used of tests 1 to 3
@@ -118,7 +165,7 @@ pub record Sound (m : List ℕ) : Type 0 where
   pub below : (g j : ℕ) → g < gateCount m → j < fanIn m g → childAt m g j < g
   pub coded-gate : (r : ℕ) → r < codeCount m → codeGate m r < gateCount m
 
--- and of 2, 4, 8 and the rest of 6 and 7: the facts of an accepted map that inner functions go by (`verdict` says more)
+-- and of 2, 4, 8 and the rest of 6 and 7: the facts of an accepted map that inner functions go by (`Drawn` has all)
 pub record IsMap (m : List ℕ) : Type 0 where
   pub sound : Sound m
   pub some-gate : 1 ≤ gateCount m
@@ -128,10 +175,13 @@ pub record IsMap (m : List ℕ) : Type 0 where
   pub code-values : (r : ℕ) → r < codeCount m → codeValue m r ≤ 1
   pub free : (g j : ℕ) → g < gateCount m → j < fanIn m g → coded (circuit m) (childAt m g j) ≡ false
 
--- A map that Check accepts has these facts, its circuit is well formed, and "Gate 0 of an accepted map is always an input."
+-- A map that Check accepts is one of the section 'The map' and has these facts, its circuit is well formed, the code of a gate is the value in its record,
+-- and "Gate 0 of an accepted map is always an input."
 pub record AcceptedMap (m : List ℕ) : Type 0 where
+  pub drawn : Drawn m
   pub facts : IsMap m
   pub circuit-is : WellFormed (circuit m)
+  pub codes-are : (g : ℕ) (v : Bool) → (circuit m .code g ≡ some v) ↔ ((r : ℕ) × (r < codeCount m) × (codeGate m r ≡ g) × (codeValue m r ≡ byte v))
   pub gate-zero : kindByte m 0 ≡ 0
 
 abbrev pub AcceptedMaps : Type 0

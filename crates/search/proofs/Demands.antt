@@ -1,4 +1,4 @@
--- Demands 2 and 3, about Run on bytes. Assumes nothing.
+-- The demands, on bytes. Assumes nothing.
 use Prim.Native.Nat.{ℕ, zero, suc, _*_, _≤_, _<_}
 use mathlib.Core.Path.{_≡_, refl, sym, ap, _∙_}
 use mathlib.Core.Bool.{true, false≢true, true≢false}
@@ -8,7 +8,6 @@ use mathlib.Core.List.{List·Memᴰ as In, List·Memᴰ·cases-cons as cases, Li
 use native.Mathlib.Omega.{arith}
 use lib.Dec.{eqb}
 use lib.ListN.{length, getD, take, replicate, length-map, length-replicate, List·getD-append}
-use borrow.Author.Tests.{eqb-true, eqb-false}
 use Rattle.folds.proofs.Tests.{which}
 use Rattle.circuit.specs.declared.Ending.{Ending}
 use Rattle.circuit.specs.declared.Ending.the-variants.{Found, Spent, Refused}
@@ -18,25 +17,55 @@ use Rattle.circuit.specs.Evaluate.{Satisfying, KeepsCodes, differ}
 use Rattle.circuit.specs.Survey.{survey}
 use Rattle.circuit.specs.Run.{Ended, run, answer}
 use Rattle.circuit.specs.Promise.{config, Promised, FinishingTape}
+use Rattle.circuit.proofs.Values.{bit-same}
 use Rattle.circuit.proofs.Found.{answer-is}
 use Rattle.circuit.proofs.Trace.{demand2-on-circuits}
 use Rattle.circuit.proofs.Turns.{differ-most}
 use Rattle.circuit.proofs.Finish.{demand3-on-circuits}
 use Rattle.map.specs.Map.{gateCount, codeCount, codeGate, codeValue, circuit}
 use Rattle.map.specs.Check.{firstFailed, mapTests, verdict, IsMap}
-use Rattle.map.proofs.Accepted.{facts, well-formed, accepted-maps}
+use Rattle.map.proofs.Accepted.{facts, well-formed}
 use Rattle.map.proofs.Codes.{code-found}
+use Rattle.map.proofs.Drawn.{map-accepts, map-tests-in-order, map-declines, accepted-maps}
+use Rattle.map.proofs.Parts.{stretch-is}
 use Rattle.state.specs.State.{over}
 use Rattle.state.proofs.Over.{over-first, over-rest, over-long}
-use Rattle.state.proofs.Meaning.{mark-says}
-use Rattle.survey.proofs.Meaning.{survey-writes, survey-accepts}
+use Rattle.state.proofs.Meaning.{evaluate-writes, evaluate-accepts, evaluate-tests-in-order, evaluate-declines, mark-says, mark-accepts, mark-tests-in-order, mark-declines}
+use Rattle.survey.proofs.Meaning.{survey-writes, survey-accepts, survey-tests-in-order, survey-declines}
 use Rattle.search.specs.Tape.{entries}
 use Rattle.search.specs.Run.{tapeTests, runTests, told, answered, ran, runningBy, running, Room, Runnable}
-use Rattle.search.specs.Demands.{Satisfies, FoundWrites, RunMeans, Demand2, SameRun, SameForAllMemories, AreDraws, Way, Plain, tapeOf, Finishing, Demand3}
-use Rattle.search.proofs.Meaning.{move-writes, move-accepts}
+use Rattle.search.specs.Demands.{Satisfies, FoundWrites, RunMeans, Demand1, Demand2, SameRun, SameForAllMemories, AreDraws, Way, Plain, tapeOf, Finishing, Demand3}
+use Rattle.search.proofs.Meaning.{move-writes, move-accepts, move-tests-in-order, move-declines}
 use Rattle.search.proofs.Runs.{survey-length, answer-length}
-use Rattle.search.proofs.RunMeaning.{run-ends, of-room, none, written, runnable, of-runnable, found-accepted, run-accepts}
+use Rattle.search.proofs.RunMeaning.{run-ends, of-room, none, written, runnable, of-runnable, found-accepted, run-accepts, run-tests-in-order, run-declines}
 use Rattle.search.proofs.Tapes.{entries-length, entry-is, waysOf, ways-length, ways-plain, entries-back, tape-length, tape-kinds, tape-bytes}
+
+-- ---- demand 1
+
+pub demand1 : Demand1
+demand1 = record {
+  check-accepts = map-accepts;
+  check-in-order = map-tests-in-order;
+  check-declines = map-declines;
+  children = stretch-is;
+  evaluate-accepts = evaluate-accepts;
+  evaluate-in-order = evaluate-tests-in-order;
+  evaluate-declines = evaluate-declines;
+  evaluate-writes = evaluate-writes;
+  mark-accepts = mark-accepts;
+  mark-in-order = mark-tests-in-order;
+  mark-declines = mark-declines;
+  mark-says = mark-says;
+  survey-accepts = survey-accepts;
+  survey-in-order = survey-tests-in-order;
+  survey-declines = survey-declines;
+  move-accepts = move-accepts;
+  move-in-order = move-tests-in-order;
+  move-declines = move-declines;
+  run-accepts = run-accepts;
+  run-in-order = run-tests-in-order;
+  run-declines = run-declines;
+}
 
 -- ---- demand 2
 
@@ -46,13 +75,7 @@ shown m k a rest w r h =
     let g = k .sound .coded-gate r h in
     let v = w .shows (codeGate m r) g (eqb (codeValue m r) 1) (code-found m k (codeCount m) r h (omega arith)) in
     List·getD-append a rest 0 (codeGate m r) (omega (arith, w .configuration .long))
-    ∙ same-bit (getD a (codeGate m r) 0) (codeValue m r) (w .configuration .bits (codeGate m r)) (k .code-values r h) v
-  where
-    same-bit : (x y : ℕ) → x ≤ 1 → y ≤ 1 → eqb x 1 ≡ eqb y 1 → x ≡ y
-    same-bit x y p q e = elim (which (eqb y 1)) [
-      | inl b ↦ eqb-true x 1 (e ∙ b) ∙ sym (eqb-true y 1 b)
-      | inr b ↦ (let nx = eqb-false x 1 (e ∙ b) in let ny = eqb-false y 1 b in omega (arith, nx, ny))
-    ]
+    ∙ bit-same (getD a (codeGate m r) 0) (codeValue m r) (w .configuration .bits (codeGate m r)) (k .code-values r h) v
 
 -- what is not Found leaves the answer memory
 not-answered : (e : Ending) (x ans : List ℕ) → ¬ (e ≡ Found) → answered e x ans ≡ ans

@@ -1,4 +1,4 @@
--- Document 00's demands 2 and 3, about Run on bytes: about `running`, which Run's contract cites. Assumes nothing.
+-- Document 00's demands, on bytes: about the definitions that the calls' contracts cite. Demands 2 and 3 speak of `running`, Run's. Assumes nothing.
 use Prim.Native.Nat.{ℕ, _*_, _/_, _%_, _≤_, _<_}
 use mathlib.Core.Path.{_≡_}
 use mathlib.Core.Bool.{true}
@@ -10,16 +10,46 @@ use Rattle.circuit.specs.Evaluate.{KeepsCodes, differ}
 use Rattle.circuit.specs.Survey.{survey, frontSize}
 use Rattle.circuit.specs.Promise.{Answered, config, Promised, Demand2OnCircuits}
 use Rattle.map.specs.Map.{gateCount, codeCount, codeGate, codeValue, circuit}
-use Rattle.map.specs.Check.{verdict, AcceptedMaps}
-use Rattle.state.specs.State.{marking}
-use Rattle.survey.specs.Survey.{SurveyWrites, SurveyAccepts}
+use Rattle.map.specs.Check.{verdict, MapAccepts, MapTestsInOrder, MapDeclines, AcceptedMaps}
+use Rattle.map.specs.Children.{StretchIs}
+use Rattle.state.specs.State.{marking, EvaluateWrites, EvaluateAccepts, EvaluateTestsInOrder, EvaluateDeclines, MarkSays, MarkAccepts, MarkTestsInOrder, MarkDeclines}
+use Rattle.survey.specs.Survey.{SurveyWrites, SurveyAccepts, SurveyTestsInOrder, SurveyDeclines}
 use Rattle.search.specs.Tape.{entryAt, entries}
-use Rattle.search.specs.Move.{MoveWrites, MoveAccepts}
+use Rattle.search.specs.Move.{MoveWrites, MoveAccepts, MoveTestsInOrder, MoveDeclines}
 use Rattle.search.specs.Run.{Running, running, Room, RunAccepts, RunTestsInOrder, RunDeclines}
 
 -- "Such a configuration is a satisfying assignment.": one to which Mark says yes
 abbrev pub Satisfies : List ℕ → List ℕ → Type 0
 Satisfies m a = marking m a .yes ≡ true
+
+-- ---- demand 1
+
+-- "A refused call gives the number that document 01 names and leaves all lent bytes untouched; an accepted one leaves what document 01 states."
+-- Of each call: which inputs it accepts, "on these conditions only"; that its tests have document 01's numbers in their order; what a declined call, by the
+-- first that fails, gives and leaves; and what an accepted one does. What Survey, Move and Run do is in demand 2. (The demand's first sentence, on the
+-- ends of memory and the end of calls, Rattle asks of every function.)
+pub record Demand1 : Type 0 where
+  pub check-accepts : MapAccepts
+  pub check-in-order : MapTestsInOrder
+  pub check-declines : MapDeclines
+  pub children : StretchIs
+  pub evaluate-accepts : EvaluateAccepts
+  pub evaluate-in-order : EvaluateTestsInOrder
+  pub evaluate-declines : EvaluateDeclines
+  pub evaluate-writes : EvaluateWrites
+  pub mark-accepts : MarkAccepts
+  pub mark-in-order : MarkTestsInOrder
+  pub mark-declines : MarkDeclines
+  pub mark-says : MarkSays
+  pub survey-accepts : SurveyAccepts
+  pub survey-in-order : SurveyTestsInOrder
+  pub survey-declines : SurveyDeclines
+  pub move-accepts : MoveAccepts
+  pub move-in-order : MoveTestsInOrder
+  pub move-declines : MoveDeclines
+  pub run-accepts : RunAccepts
+  pub run-in-order : RunTestsInOrder
+  pub run-declines : RunDeclines
 
 -- ---- demand 2
 
