@@ -1,4 +1,5 @@
 pub mod Writing
 pub mod Rows
 pub mod Lines
+pub mod Meaning
 pub mod Bench

@@ -3,6 +3,7 @@ use Prim.Native.Nat.{ℕ, _+_, _<_, _≤_}
 use mathlib.Core.Path.{_≡_, ap}
 use mathlib.Core.Bool.{true, false}
 use mathlib.Core.List.{List}
+use native.Mathlib.Omega.{arith}
 use lib.ListN.{length}
 use borrow.Author.Tests.{leb-true, le-leb, lt-leb, eqb-true}
 use Rattle.folds.proofs.Tests.{and-left, and-right}
@@ -13,7 +14,7 @@ use Rattle.map.proofs.Accepted.{facts}
 use Rattle.search.specs.Run.{running}
 use Rattle.search.proofs.RunMeaning.{found-accepted, run-accepts}
 use Rattle.line.specs.Text.{Wrote}
-use Rattle.line.specs.Line.{tapeAt, mapPart, configurationPart, tapePart, inputTest, lent, refusedLine, runLine, lineOf, longest, printed, printing}
+use Rattle.line.specs.Line.{tapeAt, mapPart, configurationPart, tapePart, inputTest, lent, refusedLine, runLine, lineOf, lineRoom, printed, printing}
 use Rattle.line.proofs.Writing.{wrote-over}
 
 -- what Found tells of the map
@@ -28,11 +29,8 @@ pub record Whole (x : List ℕ) : Type 0 where
 
 pub whole : (x : List ℕ) → inputTest x ≡ true → Whole x
 unfolding inputTest
-whole x e = record {
-  few = leb-true _ _ (and-left _ _ (and-left _ _ e));
-  head = leb-true _ _ (and-right _ _ (and-left _ _ e));
-  exact = eqb-true _ _ (and-right _ _ e);
-}
+whole x e = (let q = eqb-true (length x) (tapeAt x + u16At x 4) (and-right _ _ e) in
+    record { few = leb-true _ _ (and-left _ _ e); head = omega arith; exact = q })
 
 -- the line of a whole input, and of any other
 module _ (x : List ℕ) where
@@ -46,10 +44,10 @@ module _ (x : List ℕ) where
 
 -- ---- the call
 
-pub prints : (x out v : List ℕ) (n : ℕ) → longest ≤ length out → length (lineOf x) ≤ length out → Wrote 0 (lineOf x) out v n → printed n v ≡ printing x out
+pub prints : (x out v : List ℕ) (n : ℕ) → lineRoom ≤ length out → length (lineOf x) ≤ length out → Wrote 0 (lineOf x) out v n → printed n v ≡ printing x out
 unfolding printing
-prints x out v n h l p = let (q, e) = wrote-over (lineOf x) out v n l p in rw (le-leb longest (length out) h, q, e)
+prints x out v n h l p = let (q, e) = wrote-over (lineOf x) out v n l p in rw (le-leb lineRoom (length out) h, q, e)
 
-pub prints-nothing : (x out : List ℕ) → length out < longest → printed 0 out ≡ printing x out
+pub prints-nothing : (x out : List ℕ) → length out < lineRoom → printed 0 out ≡ printing x out
 unfolding printing
-prints-nothing x out h = rw (lt-leb longest (length out) h)
+prints-nothing x out h = rw (lt-leb lineRoom (length out) h)

@@ -1,5 +1,6 @@
 -- Document 01's program: from the bytes of standard input to the line that it prints. Assumes nothing.
-use Prim.Native.Nat.{ℕ, zero, suc, _+_, _-_}
+use Prim.Native.Nat.{ℕ, zero, suc, _+_, _-_, _<_, _≤_}
+use mathlib.Core.Path.{_≡_}
 use mathlib.Core.Bool.{Bool, cond}
 use mathlib.Core.List.{List, [], _∷_, _++_, map}
 use lib.ListN.{length, getD, take, drop, replicate}
@@ -37,7 +38,7 @@ tapePart x = between (tapeAt x) (length x) x
 
 -- "the number is 0 if the input passes 65,536 bytes or isn't exactly the 6 bytes and the three lengths together": true where neither is so
 unfoldable pub inputTest : List ℕ → Bool
-inputTest x = leb (length x) 65536 and leb 6 (length x) and eqb (length x) (tapeAt x + u16At x 4)
+inputTest x = leb (length x) 65536 and eqb (length x) (tapeAt x + u16At x 4)
 
 -- the work and the answer memory that the program lends Run: 1,024 bytes each, enough for every map, all 0 (`SameForAllMemories` of Run: any would do)
 unfoldable pub lent : List ℕ
@@ -78,11 +79,28 @@ lineOf x =
     (runLine (mapPart x) (running (mapPart x) (configurationPart x) (tapePart x) lent lent))
     (refusedLine 0)
 
--- ---- the call
+-- ---- what the line says
+
+-- "the number is 0 if the input passes 65,536 bytes or isn't exactly the 6 bytes and the three lengths together"
+abbrev pub TooLong : Type 0
+TooLong = (x : List ℕ) → 65536 < length x → lineOf x ≡ refusedLine 0
+
+abbrev pub NotExact : Type 0
+NotExact = (x : List ℕ) → ¬ (length x ≡ 6 + u16At x 0 + u16At x 2 + u16At x 4) → lineOf x ≡ refusedLine 0
+
+-- The program reads 65,537 bytes at most, and the line for these is the line for the whole input.
+abbrev pub CutInput : Type 0
+CutInput = (x : List ℕ) → lineOf (take 65537 x) ≡ lineOf x
 
 -- memory that holds every line
-abbrev pub longest : ℕ
-longest = 1100
+abbrev pub lineRoom : ℕ
+lineRoom = 1100
+
+-- The line of every input fits there.
+abbrev pub LineFits : Type 0
+LineFits = (x : List ℕ) → length (lineOf x) ≤ lineRoom
+
+-- ---- the call
 
 -- how long the line is, and the output memory after the call
 pub record Printing : Type 0 where
@@ -94,7 +112,7 @@ printed n w = record { size = n; out = w }
 
 -- the line stands in the first bytes of the memory and the surplus is untouched; where memory is short of 1,100 bytes nothing is written, and the size is 0
 unfoldable pub printing : List ℕ → List ℕ → Printing
-printing x out = cond (leb longest (length out)) (printed (length (lineOf x)) (over (lineOf x) out)) (printed 0 out)
+printing x out = cond (leb lineRoom (length out)) (printed (length (lineOf x)) (over (lineOf x) out)) (printed 0 out)
 
 -- ---- for inner functions
 

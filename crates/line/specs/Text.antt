@@ -1,9 +1,9 @@
 -- Text as bytes, and text written into memory. Assumes nothing.
-use Prim.Native.Nat.{ℕ, zero, suc, _+_, _/_, _%_}
+use Prim.Native.Nat.{ℕ, zero, suc, _+_, _-_, _*_, _/_, _%_, _≤_, _<_}
 use mathlib.Core.Path.{_≡_}
 use mathlib.Core.Bool.{cond}
-use mathlib.Core.List.{List, [], _∷_, _++_}
-use lib.ListN.{length}
+use mathlib.Core.List.{List, [], _∷_, _++_, List·Memᴰ as In}
+use lib.ListN.{length, getD}
 use lib.Seq.{sets}
 use lib.Dec.{eqb, ltb}
 
@@ -35,6 +35,26 @@ decimalIn (suc k) n = cond (ltb n 10) ((48 + n) ∷ []) (decimalIn k (n / 10) ++
 -- ten places hold every u32
 abbrev pub decimal : ℕ → List ℕ
 decimal n = decimalIn 10 n
+
+-- the number that digits say, from the left: ten times the number so far, n at first, plus the digit
+unfoldable pub readOn : ℕ → List ℕ → ℕ
+readOn n [] = n
+readOn n (b ∷ bs) = readOn (10 * n + (b - 48)) bs
+
+abbrev pub readDecimal : List ℕ → ℕ
+readDecimal bs = readOn 0 bs
+
+-- A number of at most ten places in decimal:
+--     reads             it reads back,
+--     digits            each byte is one of the digits 0 to 9,
+--     no-leading-zero   and the first is not 0; 0 itself is that one digit (`zero` of the examples)
+pub record DecimalIs (n : ℕ) : Type 0 where
+  pub reads : readDecimal (decimal n) ≡ n
+  pub digits : (b : ℕ) → In b (decimal n) → (48 ≤ b) × (b ≤ 57)
+  pub no-leading-zero : 1 ≤ n → ¬ (getD (decimal n) 0 0 ≡ 48)
+
+abbrev pub DecimalReads : Type 0
+DecimalReads = (n : ℕ) → n < 10000000000 → DecimalIs n
 
 -- ---- for inner functions
 

@@ -8,7 +8,8 @@ ghost use Prim.Native.Nat.{_≤_};
 ghost use lib.ListN.{length};
 ghost use Rattle.line.specs.Line.{printed, printing};
 
-// Writes the line for an input into the first bytes of `out`, which has 1,100 or more, and returns how many they are.
+// Writes the line for an input into the first bytes of `out` and returns how many they are. 1,100 bytes hold any line: with less it writes nothing and
+// returns 0.
 pub fn line(input: &[u8], out: &mut [u8]) -> usize
     ensures { λ r. ⌜ printed r (now (out .exit)) ≡ printing (now (input .entry)) (now (out .entry)) ⌝ }
     ensures { λ r. ⌜ r ≤ length (now (out .entry)) ⌝ }

@@ -7,12 +7,12 @@ ghost use Prim.Native.Nat.{_≤_};
 ghost use lib.ListN.{length};
 ghost use Rattle.search.specs.Run.{running};
 ghost use Rattle.line.specs.Text.{Wrote};
-ghost use Rattle.line.specs.Line.{longest, lent, runLine, inputTest, lineOf};
+ghost use Rattle.line.specs.Line.{lineRoom, lent, runLine, inputTest, lineOf};
 
 // Runs, with work and answer memory for every map, and writes the line.
 fn put_run(map: &[u8], configuration: &mut [u8], tape: &[u8], out: &mut [u8]) -> usize
-    requires { ⌜ longest ≤ length (now out) ⌝ }
-    ensures { λ r. ⌜ Wrote 0 (runLine (now (map .entry)) (running (now (map .entry)) (now (configuration .entry)) (now (tape .entry)) lent lent)) (now (out .entry)) (now (out .exit)) r × (r ≤ longest) ⌝ }
+    requires { ⌜ lineRoom ≤ length (now out) ⌝ }
+    ensures { λ r. ⌜ Wrote 0 (runLine (now (map .entry)) (running (now (map .entry)) (now (configuration .entry)) (now (tape .entry)) lent lent)) (now (out .entry)) (now (out .exit)) r × (r ≤ lineRoom) ⌝ }
 {
     let mut work = [0u8; 1024];
     let mut answer = [0u8; 1024];
@@ -25,8 +25,8 @@ fn put_run(map: &[u8], configuration: &mut [u8], tape: &[u8], out: &mut [u8]) ->
 
 // The same on a copy of the configuration, which a run changes.
 fn put_parts(map: &[u8], configuration: &[u8], tape: &[u8], out: &mut [u8]) -> usize
-    requires { ⌜ (length (now configuration) ≤ 65536) × (longest ≤ length (now out)) ⌝ }
-    ensures { λ r. ⌜ Wrote 0 (runLine (now (map .entry)) (running (now (map .entry)) (now (configuration .entry)) (now (tape .entry)) lent lent)) (now (out .entry)) (now (out .exit)) r × (r ≤ longest) ⌝ }
+    requires { ⌜ (length (now configuration) ≤ 65536) × (lineRoom ≤ length (now out)) ⌝ }
+    ensures { λ r. ⌜ Wrote 0 (runLine (now (map .entry)) (running (now (map .entry)) (now (configuration .entry)) (now (tape .entry)) lent lent)) (now (out .entry)) (now (out .exit)) r × (r ≤ lineRoom) ⌝ }
 {
     let mut space = [0u8; 65536];
     let n = text::put_all(configuration, &mut space, 0);
@@ -49,8 +49,8 @@ fn is_whole(input: &[u8]) -> bool
 
 // Writes the line for an input.
 pub fn put_line(input: &[u8], out: &mut [u8]) -> usize
-    requires { ⌜ longest ≤ length (now out) ⌝ }
-    ensures { λ r. ⌜ Wrote 0 (lineOf (now (input .entry))) (now (out .entry)) (now (out .exit)) r × (r ≤ longest) ⌝ }
+    requires { ⌜ lineRoom ≤ length (now out) ⌝ }
+    ensures { λ r. ⌜ Wrote 0 (lineOf (now (input .entry))) (now (out .entry)) (now (out .exit)) r × (r ≤ lineRoom) ⌝ }
 {
     if !is_whole(input) {
         return report::put_refused(0, out);

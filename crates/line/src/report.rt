@@ -9,7 +9,7 @@ ghost use Rattle.circuit.specs.declared.Ending.the-variants.{Found};
 ghost use Rattle.map.specs.Map.{gateCount};
 ghost use Rattle.map.specs.Check.{Shaped};
 ghost use Rattle.line.specs.Text.{Wrote};
-ghost use Rattle.line.specs.Line.{longest, inputText, rowText, countsText, foundLine, spentLine, refusedLine, report};
+ghost use Rattle.line.specs.Line.{lineRoom, inputText, rowText, countsText, foundLine, spentLine, refusedLine, report};
 
 // The digit of gate g's value, if it is an input.
 fn put_input(map: &[u8], gates: usize, g: usize, answer: &[u8], out: &mut [u8], at: usize) -> usize
@@ -52,8 +52,8 @@ fn put_counts(word: &[u8], moves: u16, flips: u32, out: &mut [u8]) -> usize
 
 // `FOUND moves flips row`
 fn put_found(map: &[u8], moves: u16, flips: u32, answer: &[u8], out: &mut [u8]) -> usize
-    requires { ⌜ Shaped (now map) × ((1024 ≤ length (now answer)) × (longest ≤ length (now out))) ⌝ }
-    ensures { λ r. ⌜ Wrote 0 (foundLine moves flips (now (map .entry)) (now (answer .entry))) (now (out .entry)) (now (out .exit)) r × (r ≤ longest) ⌝ }
+    requires { ⌜ Shaped (now map) × ((1024 ≤ length (now answer)) × (lineRoom ≤ length (now out))) ⌝ }
+    ensures { λ r. ⌜ Wrote 0 (foundLine moves flips (now (map .entry)) (now (answer .entry))) (now (out .entry)) (now (out .exit)) r × (r ≤ lineRoom) ⌝ }
 {
     let gates = decode::word(map, 2);
     let a = put_counts(b"FOUND ", moves, flips, out);
@@ -63,8 +63,8 @@ fn put_found(map: &[u8], moves: u16, flips: u32, answer: &[u8], out: &mut [u8]) 
 
 // `SPENT moves flips front`
 fn put_spent(front: u16, moves: u16, flips: u32, out: &mut [u8]) -> usize
-    requires { ⌜ longest ≤ length (now out) ⌝ }
-    ensures { λ r. ⌜ Wrote 0 (spentLine front moves flips) (now (out .entry)) (now (out .exit)) r × (r ≤ longest) ⌝ }
+    requires { ⌜ lineRoom ≤ length (now out) ⌝ }
+    ensures { λ r. ⌜ Wrote 0 (spentLine front moves flips) (now (out .entry)) (now (out .exit)) r × (r ≤ lineRoom) ⌝ }
 {
     let a = put_counts(b"SPENT ", moves, flips, out);
     let b = text::put_decimal(front as u32, 10, out, a);
@@ -73,8 +73,8 @@ fn put_spent(front: u16, moves: u16, flips: u32, out: &mut [u8]) -> usize
 
 // `REFUSED number`
 pub fn put_refused(number: u8, out: &mut [u8]) -> usize
-    requires { ⌜ longest ≤ length (now out) ⌝ }
-    ensures { λ r. ⌜ Wrote 0 (refusedLine number) (now (out .entry)) (now (out .exit)) r × (r ≤ longest) ⌝ }
+    requires { ⌜ lineRoom ≤ length (now out) ⌝ }
+    ensures { λ r. ⌜ Wrote 0 (refusedLine number) (now (out .entry)) (now (out .exit)) r × (r ≤ lineRoom) ⌝ }
 {
     let a = text::put_all(b"REFUSED ", out, 0);
     let b = text::put_decimal(number as u32, 10, out, a);
@@ -90,8 +90,8 @@ pub fn put_report(
     answer: &[u8],
     out: &mut [u8],
 ) -> usize
-    requires { ⌜ (ending ≡ Found → Shaped (now map)) × ((1024 ≤ length (now answer)) × (longest ≤ length (now out))) ⌝ }
-    ensures { λ r. ⌜ Wrote 0 (report ending moves flips (now (map .entry)) (now (answer .entry))) (now (out .entry)) (now (out .exit)) r × (r ≤ longest) ⌝ }
+    requires { ⌜ (ending ≡ Found → Shaped (now map)) × ((1024 ≤ length (now answer)) × (lineRoom ≤ length (now out))) ⌝ }
+    ensures { λ r. ⌜ Wrote 0 (report ending moves flips (now (map .entry)) (now (answer .entry))) (now (out .entry)) (now (out .exit)) r × (r ≤ lineRoom) ⌝ }
 {
     match ending {
         Ending::Found => put_found(map, moves, flips, answer, out),

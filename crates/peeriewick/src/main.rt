@@ -2,8 +2,6 @@
 // It only reads and writes: what it prints is `line`'s.
 use libc::STDIN_FILENO;
 use libc::STDOUT_FILENO;
-ghost use Prim.Native.Nat.{_≤_};
-ghost use lib.ListN.{length};
 
 fn print_line(input: &[u8]) {
     let mut out = [0u8; 1100];

@@ -1,12 +1,13 @@
 use denote.Ref.{now}
 use native.Mathlib.Omega.{arith}
-use Prim.Native.Nat.{ℕ, _≤_}
+use Prim.Native.Nat.{ℕ, _+_, _≤_}
 use mathlib.Core.Path.{ap}
 use lib.Dec.{eqb}
 use lib.ListN.{length}
-use borrow.Author.Tests.{le-leb, lt-leb}
+use borrow.Author.Tests.{le-leb, lt-leb, ne-eqb}
 use Rattle.folds.specs.Folds.{_and_}
-use Rattle.line.specs.Line.{inputTest}
+use Rattle.map.specs.Map.{u16At}
+use Rattle.line.specs.Line.{tapeAt, inputTest}
 use borrow.Author.Needs.{needs}
 use Rattle.line.proofs.parts.is_whole.Statement.{statement}
 use Rattle.line.proofs.parts.is_whole.Tie as tie
@@ -20,14 +21,14 @@ returns c = rw (lt-leb _ _ (c .if1 .taken))
 
 returns-2 : tie.Need-returns-2
 unfolding inputTest _and_
-returns-2 c = let h : length (now (c .before .before .before .args .input)) ≤ 65536 = omega arith in rw (le-leb _ _ h, lt-leb _ _ (c .if2 .taken))
+returns-2 c = let x = now (c .before .before .before .args .input) in
+    let h : length x ≤ 65536 = omega arith in rw (le-leb _ _ h, ne-eqb (length x) (tapeAt x + u16At x 4) (λ e. omega arith))
 
 returns-3 : tie.Need-returns-3
 unfolding inputTest _and_
 returns-3 c = let s = c .before .before .before .before .before .before in
     let h : length (now (s .args .input)) ≤ 65536 = omega arith in
-    let l : 6 ≤ length (now (s .args .input)) = omega arith in
-    rw (le-leb _ _ h, le-leb _ _ l) (ap (λ (n : ℕ). eqb (length (now (s .args .input))) n) (omega (arith, c .before .before .word .ensures .0, c .before .word2 .ensures .0, c .word3 .ensures .0)))
+    rw (le-leb _ _ h) (ap (λ (n : ℕ). eqb (length (now (s .args .input))) n) (omega (arith, c .before .before .word .ensures .0, c .before .word2 .ensures .0, c .word3 .ensures .0)))
 
 pub is-whole-spec : {M : Type 1} → statement M
 is-whole-spec =
