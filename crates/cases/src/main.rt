@@ -5,6 +5,7 @@ use circuit::Ending;
 use circuit::Outcome;
 use libc::STDIN_FILENO;
 use libc::STDOUT_FILENO;
+use line::LINE_ROOM;
 use map::Checked;
 use search::Moved;
 use state::Marked;
@@ -234,7 +235,7 @@ fn run(map: &[u8], body: &[u8], tape: &[u8], room: usize, answer: usize) {
 
 // Without its line end, which every case gets.
 fn program(input: &[u8]) {
-    let mut out = [0u8; 1100];
+    let mut out = [0u8; LINE_ROOM];
     let n = line::line(input, &mut out);
     if n > 0 {
         io::write_all(STDOUT_FILENO, &out[..n - 1]);

@@ -4,21 +4,21 @@ use mathlib.Core.Path.{_≡_, refl, sym, ap, _∙_}
 use mathlib.Core.Logic.{inl, inr, _↔_}
 use mathlib.Core.Bool.{Bool, true, false, cond}
 use mathlib.Core.Option.{Option, none, some}
-use mathlib.Core.List.{List, [], _∷_}
+use mathlib.Core.List.{List, [], _∷_, _++_, map}
 use mathlib.Core.List.{List·Memᴰ as In}
 use native.Mathlib.Omega.{arith}
-use lib.ListN.{length, getD, length-append, List·getD-append, List·getD-eq-default}
+use lib.ListN.{length, getD, length-append, length-map, List·getD-append, List·getD-eq-default}
 use lib.Seq.{getD-at, ext-getD, take-length}
 use lib.Dec.{eqb, ltb}
 use borrow.Author.Tests.{eqb-true, eqb-false, ltb-true, ltb-false}
 use Rattle.folds.proofs.Tests.{which, and-left, and-right, and-both, or-first, or-past}
 use Rattle.folds.proofs.Loops.{all-at, all-of}
-use Rattle.circuit.specs.Tools.{byte}
+use Rattle.circuit.specs.Tools.{byte, upTo}
 use Rattle.circuit.specs.Gate.{isInput, gives}
 use Rattle.circuit.specs.Circuit.{Circuit, WellFormed, Configuration, on, given, justified}
-use Rattle.circuit.specs.Evaluate.{inputsBefore, Row, rowOf, values, evaluate, showsCode, mark, Obeys, EvaluateIs, MarkIs}
+use Rattle.circuit.specs.Evaluate.{inputs, inputsBefore, Row, rowOf, values, evaluate, showsCode, mark, Obeys, EvaluateIs, MarkIs}
 use Rattle.circuit.proofs.Values.{byte-bit, on-byte, bit-same, same-true, same-refl}
-use Rattle.circuit.proofs.Lists.{map-same, table-at, table-is}
+use Rattle.circuit.proofs.Lists.{select-in, in-upTo, map-same, table-at, table-is}
 
 -- ---- justified gates
 
@@ -142,3 +142,24 @@ evaluate-is c ok row r = (
       (λ g h i. ap (λ (n : ℕ). eqb n 1) (row-input c row s (e .agrees) g h i) ∙ sym (evaluate-input c row g h i))
       (e .configuration) (values-configuration c (λ g. on row (inputsBefore c g))),
 )
+
+-- ---- the row of a configuration
+
+pub row-is : (c : Circuit) (s : List ℕ) → Configuration c s → Row c (rowOf c s)
+unfolding rowOf
+row-is c s k = record { long = length-map (inputs c) (λ g. getD s g 0); bits = bits (inputs c) }
+  where
+    bits : (xs : List ℕ) (i : ℕ) → getD (map (λ g. getD s g 0) xs) i 0 ≤ 1
+    bits [] i = omega arith
+    bits (x ∷ xs) zero = k .bits x
+    bits (x ∷ xs) (suc i) = bits xs i
+
+-- bytes behind it don't count
+pub row-first : (c : Circuit) (s rest : List ℕ) → length s ≡ c .gates → rowOf c (s ++ rest) ≡ rowOf c s
+unfolding rowOf
+row-first c s rest l = map-same (λ g. getD (s ++ rest) g 0) (λ g. getD s g 0) (inputs c)
+    (λ g i. List·getD-append s rest 0 g (omega (arith, l, in-upTo g (c .gates) (select-in (λ x. isInput (c .kind x)) g (upTo (c .gates)) i .0))))
+
+-- Evaluate makes it again
+pub evaluate-again : (c : Circuit) → WellFormed c → (s : List ℕ) → Configuration c s → Obeys c s → evaluate c (rowOf c s) ≡ s
+evaluate-again c ok s k o = sym (evaluate-is c ok (rowOf c s) (row-is c s k) .1 s (record { configuration = k; obeys = o; agrees = refl }))

@@ -13,7 +13,7 @@ use Rattle.circuit.specs.Tools.{same}
 use Rattle.circuit.specs.Gate.{isInput, gives}
 use Rattle.circuit.specs.Circuit.{Circuit, WellFormed, Configuration, on, justified, GateZeroIsInput}
 use Rattle.circuit.specs.Run.{downOptions, turn}
-use Rattle.circuit.specs.Source001.{Extends, contrary, MoveOf, Smallest, first, then, IsClosed, SmallestIs, Turned, JustifiedIs001, RelevantIs001, OptionsAre001, OptionsInOrder, DownOptionsAre001, Justifies, OptionsJustify}
+use Rattle.circuit.specs.Source001.{Extends, contrary, MoveOf, Smallest, first, then, IsClosed, SmallestIs, Turned, JustifiedIs001, RelevantIs001, OptionsAre001, OptionsInOrder, DownOptionsAre001, DownOptionsInOrder, Justifies, OptionsJustify}
 use Rattle.circuit.proofs.Values.{opposite, same-true, same-false}
 use Rattle.circuit.proofs.Lists.{at-place, select-in, in-select}
 use Rattle.circuit.proofs.Justification.{restrict-has, restrict-justifies}
@@ -53,6 +53,10 @@ justified-is c s g = (
 pub down-options-are : DownOptionsAre001
 unfolding downOptions
 down-options-are c ok s g h u = options-are (c .kind g) (on s g) (on s) (c .kids g) (unjustified-seen c ok s g h u)
+
+pub down-options-in-order : DownOptionsInOrder
+unfolding downOptions
+down-options-in-order c ok s g h u = options-in-order (c .kind g) (on s g) (on s) (c .kids g) (unjustified-seen c ok s g h u)
 
 -- a gate that is no input has a child below it
 pub gate-zero : GateZeroIsInput

@@ -15,7 +15,7 @@ use Rattle.circuit.specs.Gate.{isInput, relevant}
 use Rattle.circuit.specs.Circuit.{Circuit, coded, gatesIn, WellFormed, on, justified}
 use Rattle.circuit.specs.Evaluate.{differ}
 use Rattle.circuit.specs.Survey.{reasons, cone, inFront, front, interest, survey, frontSize, interestSize}
-use Rattle.circuit.specs.Source001.{first, then, Descendant, child, further, Brings, Cone, Front, Interesting, Lists, DifferIs, SurveyOf001, SurveyIs001}
+use Rattle.circuit.specs.Source001.{first, then, Descendant, child, further, Brings, Cone, Front, Interesting, Lists, InputsInOrder, DifferIs, SurveyOf001, SurveyIs001}
 use Rattle.circuit.proofs.Lists.{select-in, in-select, select-sub, sub-rising, in-upTo, upTo-in, length-upTo, rising-upTo, map-at}
 use Rattle.circuit.proofs.Gate.{no-part}
 use Rattle.circuit.proofs.Spread.{spread-start, spread-closed, spread-least}
@@ -23,7 +23,7 @@ use Rattle.circuit.proofs.Cone.{justified-seen, cone-coded, cone-child}
 use Rattle.circuit.proofs.Source001.{relevant-is, justified-is}
 
 -- a set of gates, as a test and as a predicate
-lists-set : (c : Circuit) (p : ℕ → Bool) (P : ℕ → Type 0) → ((x : ℕ) → x < c .gates → p x ≡ true → P x) → ((x : ℕ) → P x → (x < c .gates) × (p x ≡ true))
+pub lists-set : (c : Circuit) (p : ℕ → Bool) (P : ℕ → Type 0) → ((x : ℕ) → x < c .gates → p x ≡ true → P x) → ((x : ℕ) → P x → (x < c .gates) × (p x ≡ true))
     → Lists P (gatesIn c p)
 lists-set c p P to from = record {
   rising = sub-rising (gatesIn c p) (upTo (c .gates)) (select-sub p (upTo (c .gates))) (rising-upTo (c .gates));
@@ -32,6 +32,9 @@ lists-set c p P to from = record {
     λ h. (let (l, q) = from x h in in-select p x (upTo (c .gates)) (upTo-in x (c .gates) l) q),
   );
 }
+
+pub inputs-in-order : InputsInOrder
+inputs-in-order c = lists-set c (λ g. isInput (c .kind g)) _ (λ x h q. (h, q)) (λ x p. p)
 
 pub differ-is : DifferIs
 unfolding differ

@@ -17,8 +17,8 @@ use Rattle.circuit.specs.Run.{move, Ended, stop, after, run}
 use Rattle.circuit.specs.Promise.{NoFront, EntryDone, config, Promised, Demand2OnCircuits}
 use Rattle.circuit.proofs.Found.{answer-is, answer-satisfies}
 use Rattle.circuit.proofs.Gate.{functions}
-use Rattle.circuit.proofs.Source001.{justified-is, options-in-order, down-options-are, options-justify}
-use Rattle.circuit.proofs.Survey.{survey-is}
+use Rattle.circuit.proofs.Source001.{justified-is, down-options-are, down-options-in-order, options-justify}
+use Rattle.circuit.proofs.Survey.{inputs-in-order, differ-is, survey-is}
 use Rattle.circuit.proofs.Moves.{greedy-options-are, no-front, some-front, entry-done}
 
 -- ---- one turn of a run
@@ -132,9 +132,11 @@ demand2-on-circuits = record {
   justified = justified-is;
   surveys = survey-is;
   options = down-options-are;
-  order = options-in-order;
+  order = down-options-in-order;
   justify = options-justify;
   greedy = greedy-options-are;
+  inputs = inputs-in-order;
   answers = answer-is;
+  differs = differ-is;
   runs = promised;
 }

@@ -1,6 +1,8 @@
--- The kinds of gate. All that document 01 says of one kind and not of another stands here: a new kind is a new clause of each definition.
+-- The kinds of gate. All that document 01 says of one kind and not of another stands here: a new kind is a new clause of each definition. (What code goes by, options
+-- by their places, is in map's Kinds.)
 -- A gate is seen by its kind, its own value and its children with their values. Assumes nothing.
-use Prim.Native.Nat.{ℕ, zero, suc}
+use Prim.Native.Nat.{ℕ, zero, suc, _≤_}
+use mathlib.Core.Path.{_≡_}
 use mathlib.Core.Bool.{Bool, true, false, not}
 use mathlib.Core.List.{List, [], _∷_}
 use lib.Dec.{eqb, leb}
@@ -22,6 +24,13 @@ kindOf (suc (suc zero)) = And
 kindOf (suc (suc (suc zero))) = Or
 kindOf (suc (suc (suc (suc k)))) = Xor
 
+abbrev pub kindNumber : Kind → ℕ
+kindNumber Input = 0
+kindNumber Not = 1
+kindNumber And = 2
+kindNumber Or = 3
+kindNumber Xor = 4
+
 abbrev pub isInput : Kind → Bool
 isInput Input = true
 isInput Not = false
@@ -36,6 +45,15 @@ fanInFits Not n = eqb n 1
 fanInFits And n = leb 2 n and leb n 8
 fanInFits Or n = leb 2 n and leb n 8
 fanInFits Xor n = eqb n 2
+
+-- the same two sentences without tests: the fan-ins that a kind byte allows
+abbrev pub FanInAllowed : ℕ → ℕ → Type 0
+FanInAllowed zero n = n ≡ 0
+FanInAllowed (suc zero) n = n ≡ 1
+FanInAllowed (suc (suc zero)) n = (2 ≤ n) × (n ≤ 8)
+FanInAllowed (suc (suc (suc zero))) n = (2 ≤ n) × (n ≤ 8)
+FanInAllowed (suc (suc (suc (suc zero)))) n = n ≡ 2
+FanInAllowed (suc (suc (suc (suc (suc k))))) n = ⊥
 
 -- ---- States, assignments, marking
 

@@ -16,7 +16,7 @@ use Rattle.circuit.specs.Evaluate.{Obeys, Satisfying, Satisfiable, Keeps
 use Rattle.circuit.specs.Survey.{front, frontSize, interestSize}
 use Rattle.circuit.specs.declared.Entry.{Entry}
 use Rattle.circuit.specs.Run.{downOptions, turn, greedyOptions, turned, move, Ended, run, answer}
-use Rattle.circuit.specs.Source001.{OptionOf, Cone, Front, Turned, Size, Functions, JustifiedIs001, OptionsInOrder, DownOptionsAre001, OptionsJustify, SurveyIs001}
+use Rattle.circuit.specs.Source001.{OptionOf, Cone, Front, Turned, Size, Functions, JustifiedIs001, DownOptionsAre001, DownOptionsInOrder, OptionsJustify, InputsInOrder, DifferIs, SurveyIs001}
 
 abbrev pub NoFront : Circuit → List ℕ → Type 0
 NoFront c s = (g : ℕ) → ¬ Front c s g
@@ -126,17 +126,21 @@ pub record Promised (c : Circuit) (s : List ℕ) (es : List Entry) (t : ℕ → 
 --     surveys                        "Cone, front and interest set are those of source document 001, save two differences"
 --     options, order, justify        the down options are 001's, in document 01's order; each justifies its gate, and `turn` turns just its gates
 --     greedy                         what greedy picks from
+--     inputs                         the list of inputs that rows go by has exactly these, by gate number
 --     answers                        what Found writes
+--     differs                        what `flips` sums: at how many gates two configurations differ
 --     runs                           what runs promise
 pub record Demand2OnCircuits : Type 0 where
   pub functions : Functions
   pub justified : JustifiedIs001
   pub surveys : SurveyIs001
   pub options : DownOptionsAre001
-  pub order : OptionsInOrder
+  pub order : DownOptionsInOrder
   pub justify : OptionsJustify
   pub greedy : GreedyOptionsAre
+  pub inputs : InputsInOrder
   pub answers : AnswerIs
+  pub differs : DifferIs
   pub runs : (c : Circuit) → WellFormed c → (s : List ℕ) → KeepsCodes c s → (es : List Entry) → Promised c s es (config c s es) (run c s es)
 
 -- ---- demand 3

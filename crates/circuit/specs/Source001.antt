@@ -12,7 +12,7 @@ use lib.ListN.{length, getD}
 use Rattle.circuit.specs.Tools.{byte, same, member, Rising, Distinct, singles, select}
 use Rattle.circuit.specs.Gate.{Kind, Not, And, Or, Xor, isInput, fanInFits, gives, relevant, wrong, options}
 use Rattle.circuit.specs.Circuit.{Circuit, coded, WellFormed, Configuration, on, justified}
-use Rattle.circuit.specs.Evaluate.{differ}
+use Rattle.circuit.specs.Evaluate.{inputs, differ}
 use Rattle.circuit.specs.Survey.{cone, inFront, front, interest, survey, frontSize, interestSize}
 use Rattle.circuit.specs.Run.{downOptions, turn}
 
@@ -180,6 +180,12 @@ DownOptionsAre001 =
     (c : Circuit) → WellFormed c → (s : List ℕ) (g : ℕ) → g < c .gates → justified c s g ≡ false
     → ((o : List ℕ) → In o (downOptions c s g) ↔ OptionOf c s g o) × Distinct (downOptions c s g)
 
+-- `OptionsInOrder` for these: "numbered from 0: .. a single option that turns every wrong child; .. one per child in order"
+abbrev pub DownOptionsInOrder : Type 0
+DownOptionsInOrder =
+    (c : Circuit) → WellFormed c → (s : List ℕ) (g : ℕ) → g < c .gates → justified c s g ≡ false
+    → (downOptions c s g ≡ wrong (on s g) (on s) (c .kids g) ∷ []) ⊎ (downOptions c s g ≡ singles (c .kids g))
+
 -- from s to t the gates o have turned, and no other byte is another
 pub record Turned (o s t : List ℕ) : Type 0 where
   pub these : (x : ℕ) → In x o → on t x ≡ not (on s x)
@@ -200,6 +206,10 @@ OptionsJustify =
 pub record Lists (P : ℕ → Type 0) (xs : List ℕ) : Type 0 where
   pub rising : Rising xs
   pub has : (x : ℕ) → In x xs ↔ P x
+
+-- `inputs` lists exactly the inputs, "by gate number".
+abbrev pub InputsInOrder : Type 0
+InputsInOrder = (c : Circuit) → Lists (λ g. (g < c .gates) × (isInput (c .kind g) ≡ true)) (inputs c)
 
 -- the set P has n elements
 pub record Size (P : ℕ → Type 0) (n : ℕ) : Type 0 where

@@ -1,12 +1,13 @@
 -- An input's parts, and the line of the run on them. Assumes nothing.
-use Prim.Native.Nat.{ℕ, _+_, _<_, _≤_}
+use Prim.Native.Nat.{ℕ, _+_, _-_, _<_, _≤_}
 use mathlib.Core.Path.{_≡_, ap}
 use mathlib.Core.Bool.{true, false}
-use mathlib.Core.List.{List}
+use mathlib.Core.List.{List, _++_}
 use native.Mathlib.Omega.{arith}
-use lib.ListN.{length}
-use borrow.Author.Tests.{leb-true, le-leb, lt-leb, eqb-true}
-use Rattle.folds.proofs.Tests.{and-left, and-right}
+use lib.ListN.{length, take, drop, length-append}
+use lib.Seq.{take-at, take-all, take-append-seam, drop-drop, drop-append-seam}
+use borrow.Author.Tests.{leb-true, le-leb, lt-leb, eqb-true, eq-eqb}
+use Rattle.folds.proofs.Tests.{and-left, and-right, and-both}
 use Rattle.circuit.specs.declared.Ending.the-variants.{Found}
 use Rattle.map.specs.Map.{u16At}
 use Rattle.map.specs.Check.{Shaped}
@@ -14,7 +15,7 @@ use Rattle.map.proofs.Accepted.{facts}
 use Rattle.search.specs.Run.{running}
 use Rattle.search.proofs.RunMeaning.{found-accepted, run-accepts}
 use Rattle.line.specs.Text.{Wrote}
-use Rattle.line.specs.Line.{tapeAt, mapPart, configurationPart, tapePart, inputTest, lent, refusedLine, runLine, lineOf, lineRoom, printed, printing}
+use Rattle.line.specs.Line.{tapeAt, mapPart, configurationPart, tapePart, inputTest, lent, refusedLine, runLine, lineOf, inputOf, lineRoom, Printing, printed, printing}
 use Rattle.line.proofs.Writing.{wrote-over}
 
 -- what Found tells of the map
@@ -42,6 +43,50 @@ module _ (x : List ℕ) where
   unfolding lineOf
   line-runs e = rw e
 
+-- ---- an input of three bodies
+
+module _ (m s tape : List ℕ) where
+  abbrev x : List ℕ
+  x = inputOf m s tape
+
+  map-size : u16At x 0 ≡ length m
+  unfolding u16At
+  map-size = omega arith
+
+  configuration-size : u16At x 2 ≡ length s
+  unfolding u16At
+  configuration-size = omega arith
+
+  tape-size : u16At x 4 ≡ length tape
+  unfolding u16At
+  tape-size = omega arith
+
+  input-size : length x ≡ 6 + length m + length s + length tape
+  input-size = simp length-append (omega arith)
+
+  -- what is behind the map, and behind the configuration
+  behind-map : drop (6 + length m) x ≡ s ++ tape
+  behind-map = rw (← drop-drop (length m) 6 x) (drop-append-seam m (s ++ tape))
+
+  behind-configuration : drop (6 + length m + length s) x ≡ tape
+  behind-configuration = rw (← drop-drop (length s) (6 + length m) x, behind-map) (drop-append-seam s tape)
+
+  -- its parts are these bodies
+  pub map-part : mapPart x ≡ m
+  map-part = rw map-size (take-at m (s ++ tape) (6 + length m - 6) (omega arith))
+
+  pub configuration-part : configurationPart x ≡ s
+  configuration-part = rw (map-size, configuration-size, behind-map) (take-at s tape (6 + length m + length s - (6 + length m)) (omega arith))
+
+  pub tape-part : tapePart x ≡ tape
+  tape-part = rw (map-size, configuration-size, behind-configuration) (take-all (length x - (6 + length m + length s)) tape (omega (arith, input-size)))
+
+  pub parts-whole : 6 + length m + length s + length tape ≤ 65536 → inputTest x ≡ true
+  unfolding inputTest
+  parts-whole h =
+      let e : length x ≡ tapeAt x + u16At x 4 = omega (arith, input-size, map-size, configuration-size, tape-size) in
+      and-both _ _ (le-leb (length x) 65536 (rw input-size h)) (eq-eqb _ _ e)
+
 -- ---- the call
 
 pub prints : (x out v : List ℕ) (n : ℕ) → lineRoom ≤ length out → length (lineOf x) ≤ length out → Wrote 0 (lineOf x) out v n → printed n v ≡ printing x out
@@ -51,3 +96,10 @@ prints x out v n h l p = let (q, e) = wrote-over (lineOf x) out v n l p in rw (l
 pub prints-nothing : (x out : List ℕ) → length out < lineRoom → printed 0 out ≡ printing x out
 unfolding printing
 prints-nothing x out h = rw (lt-leb lineRoom (length out) h)
+
+-- what stands in the memory after it
+pub printed-line : (x out v : List ℕ) (n : ℕ) → lineRoom ≤ length out → printed n v ≡ printing x out → take n v ≡ lineOf x
+unfolding printing
+printed-line x out v n h e =
+    let q = rw (le-leb lineRoom (length out) h) at e in
+    rw (ap (λ (p : Printing). p .size) q, ap (λ (p : Printing). p .out) q) (take-append-seam (lineOf x) (drop (length (lineOf x)) out))

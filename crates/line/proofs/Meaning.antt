@@ -1,4 +1,4 @@
--- What the line says: inputs that the program refuses itself, its length, and its numbers. Assumes nothing.
+-- What the line says: inputs that the program runs or refuses itself, all memories, its length, and its numbers. Assumes nothing.
 use Prim.Native.Nat.{ℕ, zero, suc, _+_, _-_, _*_, _/_, _%_, _^_, _≤_, _<_}
 use mathlib.Core.Path.{_≡_, refl, sym, ap, _∙_}
 use mathlib.Core.Logic.{inl, inr}
@@ -7,8 +7,8 @@ use native.Mathlib.Omega.{arith}
 use native.Mathlib.Nat.{pow-suc}
 use lib.ListN.{length, getD, take, length-append, length-map, List·getD-append}
 use lib.Seq.{take-all, length-take-le}
-use lib.Dec.{leb, ltb}
-use borrow.Author.Tests.{ne-eqb, lt-leb, leb-true, leb-false, ltb-true, ltb-false}
+use lib.Dec.{eqb, leb, ltb}
+use borrow.Author.Tests.{eqb-true, eqb-false, ne-eqb, lt-leb, leb-true, leb-false, ltb-true, ltb-false}
 use Rattle.folds.proofs.Tests.{which, and-first-false, and-second-false}
 use Rattle.circuit.specs.declared.Ending.{Ending}
 use Rattle.circuit.specs.declared.Ending.the-variants.{Found, Spent, Refused}
@@ -17,12 +17,20 @@ use Rattle.circuit.specs.Gate.{kindOf, isInput}
 use Rattle.circuit.specs.Evaluate.{rowOf}
 use Rattle.circuit.proofs.Lists.{select-length, length-upTo}
 use Rattle.map.specs.Map.{u16At, gateCount, kindByte}
-use Rattle.map.specs.Check.{Shaped}
+use Rattle.map.specs.Check.{Shaped, verdict}
+use Rattle.map.proofs.Accepted.{facts}
+use Rattle.map.proofs.Answers.{behind-declined}
+use Rattle.search.specs.Run.{runTests, runningBy, running, Room}
+use Rattle.search.proofs.Demands.{same-for-all-memories}
 use Rattle.line.specs.Text.{decimalIn, readOn, readDecimal, DecimalReads}
-use Rattle.line.specs.Line.{tapeAt, mapPart, configurationPart, tapePart, inputTest, lent, rowText, report, lineOf, TooLong, NotExact, CutInput, lineRoom, LineFits}
-use Rattle.line.proofs.Lines.{found-shaped, line-refused, line-runs}
+use Rattle.line.specs.Line.{tapeAt, mapPart, configurationPart, tapePart, inputTest, lent, rowText, report, runLine, lineOf, inputOf, ExactInput, SameLineForAllMemories, TooLong, NotExact, CutInput, lineRoom, LineFits}
+use Rattle.line.proofs.Rows.{same-row}
+use Rattle.line.proofs.Lines.{found-shaped, line-refused, line-runs, map-part, configuration-part, tape-part, parts-whole}
 
--- ---- inputs that the program refuses itself
+-- ---- inputs that the program runs, and inputs that it refuses itself
+
+pub exact-input : ExactInput
+exact-input m s tape h = rw (map-part m s tape, configuration-part m s tape, tape-part m s tape) at (sym (line-runs (inputOf m s tape) (parts-whole m s tape h)))
 
 pub too-long : TooLong
 unfolding inputTest
@@ -38,6 +46,32 @@ cut-input x = elim (which (leb (length x) 65537)) [
   | inr q ↦ (let h : 65537 < length x = leb-false _ _ q in
       let n : length (take 65537 x) ≡ 65537 = length-take-le 65537 x (omega arith) in
       too-long (take 65537 x) (omega arith) ∙ sym (too-long x (omega arith)))
+]
+
+-- ---- all memories
+
+same-report : (e : Ending) (moves flips : ℕ) (m a b : List ℕ) → (e ≡ Found → take (gateCount m) a ≡ take (gateCount m) b) → report e moves flips m a ≡ report e moves flips m b
+same-report Found moves flips m a b h = rw (same-row m a b (h refl))
+same-report (Spent front) moves flips m a b h = refl
+same-report (Refused number) moves flips m a b h = refl
+
+module _ (m s tape work ans : List ℕ) where
+  -- on an accepted map the memories that the program lends are long enough; on any other the memories aren't tested
+  same-accepted : verdict m ≡ 0 → Room m work ans → runLine m (running m s tape work ans) ≡ runLine m (running m s tape lent lent)
+  unfolding lent
+  same-accepted v r =
+      let l : gateCount m ≤ 1024 = facts m v .sound .placed .shaped .few in
+      let q = same-for-all-memories m s tape work ans lent lent r (record { work-room = l; answer-room = l }) in
+      same-report _ _ _ m _ _ (q .answered) ∙ rw (q .outcome)
+
+  same-declined : (verdict m ≡ 0 → ⊥) → runLine m (running m s tape work ans) ≡ runLine m (running m s tape lent lent)
+  unfolding running runningBy
+  same-declined v = rw (behind-declined m (runTests m s tape work ans) v, behind-declined m (runTests m s tape lent lent) v, ne-eqb (verdict m) 0 v)
+
+pub same-line-for-all-memories : SameLineForAllMemories
+same-line-for-all-memories m s tape work ans r = elim (which (eqb (verdict m) 0)) [
+  | inl q ↦ same-accepted m s tape work ans (eqb-true _ _ q) r
+  | inr q ↦ same-declined m s tape work ans (eqb-false _ _ q)
 ]
 
 -- ---- how long a line is

@@ -1,10 +1,12 @@
 -- The row's text, gate by gate. Assumes nothing.
-use Prim.Native.Nat.{ℕ, zero, suc, _+_}
-use mathlib.Core.Path.{_≡_, refl, sym, _∙_}
+use Prim.Native.Nat.{ℕ, zero, suc, _+_, _<_}
+use mathlib.Core.Path.{_≡_, refl, sym, ap, _∙_}
 use mathlib.Core.Logic.{inl, inr}
 use mathlib.Core.List.{List, [], _∷_, _++_, map}
 use native.Mathlib.Numerals.{add-one}
-use lib.ListN.{getD}
+use native.Mathlib.Omega.{arith}
+use lib.ListN.{getD, take}
+use lib.Seq.{getD-take}
 use Rattle.folds.proofs.Tests.{which}
 use Rattle.circuit.specs.Tools.{upTo, select}
 use Rattle.circuit.specs.Gate.{kindOf, isInput}
@@ -42,3 +44,15 @@ module _ (m ans : List ℕ) where
   pub row-whole : (n : ℕ) → n ≡ gateCount m → rowBelow m ans n ≡ rowText m ans
   unfolding rowOf
   row-whole n e = below n ∙ rw e
+
+-- only the gates' bytes of the answer count
+same-below : (m a b : List ℕ) (n : ℕ) → ((g : ℕ) → g < n → getD a g 0 ≡ getD b g 0) → rowBelow m a n ≡ rowBelow m b n
+unfolding rowBelow inputText
+same-below m a b zero h = refl
+same-below m a b (suc n) h = rw (same-below m a b n (λ g l. h g (omega arith)), h n (omega arith))
+
+pub same-row : (m a b : List ℕ) → take (gateCount m) a ≡ take (gateCount m) b → rowText m a ≡ rowText m b
+same-row m a b e = sym (row-whole m a (gateCount m) refl) ∙ same-below m a b (gateCount m) same ∙ row-whole m b (gateCount m) refl
+  where
+    same : (g : ℕ) → g < gateCount m → getD a g 0 ≡ getD b g 0
+    same g l = sym (getD-take (gateCount m) a g 0 l) ∙ ap (λ (l : List ℕ). getD l g 0) e ∙ getD-take (gateCount m) b g 0 l

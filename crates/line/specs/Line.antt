@@ -1,5 +1,5 @@
 -- Document 01's program: from the bytes of standard input to the line that it prints. Assumes nothing.
-use Prim.Native.Nat.{ℕ, zero, suc, _+_, _-_, _<_, _≤_}
+use Prim.Native.Nat.{ℕ, zero, suc, _+_, _-_, _/_, _%_, _<_, _≤_}
 use mathlib.Core.Path.{_≡_}
 use mathlib.Core.Bool.{Bool, cond}
 use mathlib.Core.List.{List, [], _∷_, _++_, map}
@@ -12,7 +12,7 @@ use Rattle.circuit.specs.Gate.{kindOf, isInput}
 use Rattle.circuit.specs.Evaluate.{rowOf}
 use Rattle.map.specs.Map.{u16At, kindByte, circuit}
 use Rattle.state.specs.State.{over}
-use Rattle.search.specs.Run.{Running, running}
+use Rattle.search.specs.Run.{Running, running, Room}
 use Rattle.line.specs.Text.{foundWord, spentWord, refusedWord, blank, lineEnd, digit, decimal}
 
 -- the bytes from place a on, up to before place b
@@ -40,7 +40,8 @@ tapePart x = between (tapeAt x) (length x) x
 unfoldable pub inputTest : List ℕ → Bool
 inputTest x = leb (length x) 65536 and eqb (length x) (tapeAt x + u16At x 4)
 
--- the work and the answer memory that the program lends Run: 1,024 bytes each, enough for every map, all 0 (`SameForAllMemories` of Run: any would do)
+-- the work and the answer memory that the program lends Run: 1,024 bytes each, enough for every map, all 0; any others that
+-- number 14 lets through would do (`SameForAllMemories` in search/specs/Demands.antt, and `SameLineForAllMemories` below)
 unfoldable pub lent : List ℕ
 lent = replicate 1024 0
 
@@ -80,6 +81,18 @@ lineOf x =
     (refusedLine 0)
 
 -- ---- what the line says
+
+-- standard input with these three bodies: "three u16 lengths (map, configuration, tape) and the three bodies"
+abbrev pub inputOf : List ℕ → List ℕ → List ℕ → List ℕ
+inputOf m s tape = length m % 256 ∷ length m / 256 ∷ length s % 256 ∷ length s / 256 ∷ length tape % 256 ∷ length tape / 256 ∷ (m ++ (s ++ tape))
+
+-- An input of exactly these bodies, at most 65,536 bytes in all, gives the line of the run on them.
+abbrev pub ExactInput : Type 0
+ExactInput = (m s tape : List ℕ) → 6 + length m + length s + length tape ≤ 65536 → lineOf (inputOf m s tape) ≡ runLine m (running m s tape lent lent)
+
+-- Any work and answer memory that number 14 lets through would give the same line.
+abbrev pub SameLineForAllMemories : Type 0
+SameLineForAllMemories = (m s tape work ans : List ℕ) → Room m work ans → runLine m (running m s tape work ans) ≡ runLine m (running m s tape lent lent)
 
 -- "the number is 0 if the input passes 65,536 bytes or isn't exactly the 6 bytes and the three lengths together"
 abbrev pub TooLong : Type 0

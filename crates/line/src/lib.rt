@@ -8,13 +8,19 @@ ghost use Prim.Native.Nat.{_≤_};
 ghost use lib.ListN.{length};
 ghost use Rattle.line.specs.Line.{printed, printing};
 
-// Writes the line for an input into the first bytes of `out` and returns how many they are. 1,100 bytes hold any line: with less it writes nothing and
+// Memory for standard input: one byte more than an input may have tells that it is too long (`CutInput` in specs/Line.antt).
+pub const INPUT_ROOM: usize = 65537;
+
+// Memory that holds every line (`LineFits` in specs/Line.antt).
+pub const LINE_ROOM: usize = 1100;
+
+// Writes the line for an input into the first bytes of `out` and returns how many they are. `LINE_ROOM` bytes hold any line: with less it writes nothing and
 // returns 0.
 pub fn line(input: &[u8], out: &mut [u8]) -> usize
     ensures { λ r. ⌜ printed r (now (out .exit)) ≡ printing (now (input .entry)) (now (out .entry)) ⌝ }
     ensures { λ r. ⌜ r ≤ length (now (out .entry)) ⌝ }
 {
-    if out.len() < 1100 {
+    if out.len() < LINE_ROOM {
         return 0;
     }
     parts::put_line(input, out)

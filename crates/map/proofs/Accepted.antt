@@ -38,7 +38,7 @@ module _ (f : ℕ → ℕ) where
       (λ x m. (let (i, j, e) = of-map f (upTo n) m in rw (← e) (steps (suc n) i n up (in-upTo i n j) (omega arith)))))
 
 -- what a test of neighbours says
-ascends : (f : ℕ → ℕ) (j : ℕ) → (eqb (j + 1) 0 or ltb (f (j + 1 - 1)) (f (j + 1))) ≡ true → f j < f (j + 1)
+pub ascends : (f : ℕ → ℕ) (j : ℕ) → (eqb (j + 1) 0 or ltb (f (j + 1 - 1)) (f (j + 1))) ≡ true → f j < f (j + 1)
 ascends f j e =
     let q : j + 1 - 1 ≡ j = omega arith in
     ltb-true (f j) (f (j + 1)) (rw q at (sym (or-past _ _ (ne-eqb (j + 1) 0 (λ z. omega arith))) ∙ e))
@@ -78,7 +78,7 @@ module _ (m : List ℕ) (v : verdict m ≡ 0) where
       }
 
 module _ (m : List ℕ) (k : IsMap m) where
-  kids-length : (g : ℕ) → length (kidsOf m g) ≡ fanIn m g
+  pub kids-length : (g : ℕ) → length (kidsOf m g) ≡ fanIn m g
   unfolding kidsOf
   kids-length g = length-map (upTo (fanIn m g)) (λ j. childAt m g j) ∙ length-upTo (fanIn m g)
 

@@ -32,6 +32,7 @@ examples = record {
   wide = (refl, refl);
   too-wide = refl;
   position = refl;
+  gap = refl;
   input-position = (refl, refl);
   kind-first = refl;
   total = refl;

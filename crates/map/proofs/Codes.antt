@@ -1,5 +1,5 @@
 -- The code of a gate, by its record. Assumes nothing.
-use Prim.Native.Nat.{ℕ, zero, suc, _≤_, _<_}
+use Prim.Native.Nat.{ℕ, zero, suc, _+_, _≤_, _<_}
 use mathlib.Core.Path.{_≡_, refl}
 use mathlib.Core.Bool.{Bool}
 use mathlib.Core.Option.{none, some}
@@ -11,7 +11,6 @@ use lib.Dec.{eqb}
 use borrow.Author.Tests.{eqb-true, eq-eqb, ne-eqb}
 use Rattle.folds.proofs.Tests.{which}
 use Rattle.map.specs.Map.{codeCount, codeGate, codeValue, codeAmong}
-use Rattle.map.specs.Check.{IsMap}
 use Rattle.map.proofs.Accepted.{steps}
 
 -- a gate's code has a record
@@ -24,13 +23,13 @@ code-record m (suc n) g v e = elim (which (eqb (codeGate m n) g)) [
 ]
 
 -- and a record is the code of its gate, as no other record has this gate
-pub code-found : (m : List ℕ) → IsMap m → (n r : ℕ) → r < n → n ≤ codeCount m → codeAmong m n (codeGate m r) ≡ some (eqb (codeValue m r) 1)
+pub code-found : (m : List ℕ) → ((r : ℕ) → r + 1 < codeCount m → codeGate m r < codeGate m (r + 1)) → (n r : ℕ) → r < n → n ≤ codeCount m → codeAmong m n (codeGate m r) ≡ some (eqb (codeValue m r) 1)
 unfolding codeAmong
-code-found m k zero r l h = absurd (omega arith)
-code-found m k (suc n) r l h = elim (eq-or-lt-of-le (le-of-suc-le-suc l)) [
+code-found m up zero r l h = absurd (omega arith)
+code-found m up (suc n) r l h = elim (eq-or-lt-of-le (le-of-suc-le-suc l)) [
   | inl q ↦ rw (← q, eq-eqb (codeGate m r) (codeGate m r) refl)
-  | inr q ↦ (let s = steps (λ i. codeGate m i) (codeCount m) r n (k .codes-ascend) q (omega arith) in
-      rw (ne-eqb (codeGate m n) (codeGate m r) (λ e. omega arith)) (code-found m k n r q (omega arith)))
+  | inr q ↦ (let s = steps (λ i. codeGate m i) (codeCount m) r n up q (omega arith) in
+      rw (ne-eqb (codeGate m n) (codeGate m r) (λ e. omega arith)) (code-found m up n r q (omega arith)))
 ]
 
 -- a gate that no record has is uncoded

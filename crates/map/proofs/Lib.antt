@@ -3,7 +3,7 @@ pub mod Accepted
 pub mod Parts
 pub mod Answers
 pub mod Codes
-pub mod Drawn
+pub mod Described
 pub mod Count
 pub mod Options
 pub mod Bench

@@ -57,9 +57,16 @@ module _ (m : List ℕ) (g : ℕ) where
       let q : a + (i + 1) ≡ b + 1 = omega arith in
       rw (getD-take n (drop a m) i 0 (omega arith), getD-take n (drop a m) (i + 1) 0 l, getD-drop a m i 0, getD-drop a m (i + 1) 0, q, e)
 
+  stretch-place : hasGate m g ≡ true → stretchAt m g ≡ childrenAt m + 2 * firstChild m g
+  unfolding stretchAt
+  stretch-place h = rw h
+
+  stretch-long : hasGate m g ≡ true → stretchLength m g ≡ 2 * fanIn m g
+  unfolding stretchLength
+  stretch-long h = rw h
+
   stretch-holds : hasGate m g ≡ true → (j : ℕ) → j < fanIn m g → u16At (take (stretchLength m g) (drop (stretchAt m g) m)) (2 * j) ≡ childAt m g j
-  unfolding stretchAt stretchLength
-  stretch-holds h j l = rw h (part-word (childrenAt m + 2 * firstChild m g) (2 * fanIn m g) (2 * j) _ (omega arith) (omega arith))
+  stretch-holds h j l = rw (stretch-place h, stretch-long h) (part-word (childrenAt m + 2 * firstChild m g) (2 * fanIn m g) (2 * j) _ (omega arith) (omega arith))
 
   gate-of : hasGate m g ≡ true → (verdict m ≡ 0) × (g < gateCount m)
   unfolding hasGate
@@ -82,7 +89,9 @@ module _ (m : List ℕ) (g : ℕ) where
 
 pub stretch-is : StretchIs
 stretch-is m g = record {
-  holds = stretch-holds m g;
+  place = λ v l. stretch-place m g (has-gate m g v l);
+  long = λ v l. stretch-long m g (has-gate m g v l);
+  holds = λ v l. stretch-holds m g (has-gate m g v l);
   input = stretch-input m g;
   past-end = λ h. stretch-none m g (past-end m g h);
   declined = λ h. stretch-none m g (declined m g h);

@@ -81,6 +81,7 @@ pub record Examples : Type 0 where
   pub too-wide : verdict (withByte 45 9 wideBytes) ≡ 4
   -- 5: gate 7 at 9; an input, whose first child position counts too; gate 3 at 1 where gate 7 has kind 5 is still 4; an OR of 3
   pub position : verdict (withByte 42 9 adderBytes) ≡ 5
+  pub gap : checked gapBytes ≡ record { accepted = true; number = 0; gates = 4; inputs = 2; children = 3; codes = 1 }
   pub input-position : (verdict gapBytes ≡ 0) × (verdict (withByte 22 0 gapBytes) ≡ 5)
   pub kind-first : verdict (withByte 26 1 (withByte 40 5 adderBytes)) ≡ 4
   pub total : verdict (withByte 41 3 adderBytes) ≡ 5

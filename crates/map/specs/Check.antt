@@ -4,13 +4,14 @@ use mathlib.Core.Path.{_≡_}
 use mathlib.Core.Logic.{_↔_}
 use mathlib.Core.Bool.{Bool, true, false, cond, not}
 use mathlib.Core.Option.{some}
-use mathlib.Core.List.{List, [], _∷_, _++_, map}
+use mathlib.Core.List.{List, [], _∷_, _++_}
 use lib.ListN.{length, getD}
 use lib.Dec.{eqb, leb, ltb}
 use Rattle.folds.specs.Folds.{_and_, _or_, allBelow}
-use Rattle.circuit.specs.Gate.{lastKind, kindOf, fanInFits}
+use Rattle.circuit.specs.Gate.{lastKind, kindOf, kindNumber, fanInFits, FanInAllowed}
 use Rattle.circuit.specs.Tools.{byte}
 use Rattle.circuit.specs.Circuit.{isSome, coded, WellFormed}
+use Rattle.circuit.specs.Source001.{Size}
 use Rattle.map.specs.Map.{u16At, gateCount, childCount, codeCount, childrenAt, codesAt, lengthGiven, kindByte, fanIn, firstChild, fanInsBefore, childAt, codeGate, codeValue, codeZero, codeAmong, circuit, inputCount}
 use Rattle.map.specs.declared.Counts.{Counts}
 use Rattle.map.specs.declared.Checked.{Checked}
@@ -104,48 +105,88 @@ checked m =
 
 -- ---- which maps are accepted
 
--- A map as the section 'The map' describes it.
-pub record Drawn (m : List ℕ) : Type 0 where
-  -- "The contents are six u16"
-  pub contents : 12 ≤ length m
-  -- "A map has 1 to 1,024 gates"
-  pub gates : (1 ≤ gateCount m) × (gateCount m ≤ 1024)
-  -- "so the offsets are 12, 12 + 4 × gates, and that plus 2 × children; the length is the last offset plus 4 × codes"
-  pub offsets : (u16At m 0 ≡ 12) × ((u16At m 4 ≡ childrenAt m) × (u16At m 8 ≡ codesAt m))
-  pub length-is : length m ≡ lengthGiven m
-  -- "Kinds: 0 input, 1 NOT, 2 AND, 3 OR, 4 XOR. Fan-in: 0 for an input, 1 for NOT, 2 for XOR, 2 to 8 for AND and OR.": the table is `fanInFits` of
-  -- circuit's Gate
-  pub kinds : (g : ℕ) → g < gateCount m → (kindByte m g ≤ lastKind) × (fanInFits (kindOf (kindByte m g)) (fanIn m g) ≡ true)
-  -- "The first child position is the sum of all earlier fan-ins, for inputs too; the total of all fan-ins is the child count."
+-- The section 'The map' as plain facts, by the numbers of the tests.
+
+-- 3: "so the offsets are 12, 12 + 4 × gates, and that plus 2 × children; the length is the last offset plus 4 × codes"
+pub record Laid (m : List ℕ) : Type 0 where
+  pub gates-at : u16At m 0 ≡ 12
+  pub children-at : u16At m 4 ≡ childrenAt m
+  pub codes-at : u16At m 8 ≡ codesAt m
+  pub long : length m ≡ lengthGiven m
+
+-- 5: "The first child position is the sum of all earlier fan-ins, for inputs too; the total of all fan-ins is the child count."
+pub record Summed (m : List ℕ) : Type 0 where
   pub positions : (g : ℕ) → g < gateCount m → firstChild m g ≡ fanInsBefore m g
   pub total : fanInsBefore m (gateCount m) ≡ childCount m
-  -- A child "is below its parent's number, and a gate's children strictly ascend."
-  pub children-below : (g j : ℕ) → g < gateCount m → j < fanIn m g → childAt m g j < g
-  pub children-ascend : (g j : ℕ) → g < gateCount m → j + 1 < fanIn m g → childAt m g j < childAt m g (j + 1)
-  -- "Code record, 4 bytes: gate (u16), value 0 or 1, and a zero byte.": its gate is one of the map's
-  pub code-gates : (r : ℕ) → r < codeCount m → codeGate m r < gateCount m
-  pub code-values : (r : ℕ) → r < codeCount m → codeValue m r ≤ 1
-  pub code-zeros : (r : ℕ) → r < codeCount m → codeZero m r ≡ 0
-  -- "Codes strictly ascend by gate."
-  pub codes-ascend : (r : ℕ) → r + 1 < codeCount m → codeGate m r < codeGate m (r + 1)
-  -- "A coded gate is nobody's child."
+
+-- 6: a child "is below its parent's number, and a gate's children strictly ascend."
+pub record Ordered (m : List ℕ) : Type 0 where
+  pub below : (g j : ℕ) → g < gateCount m → j < fanIn m g → childAt m g j < g
+  pub ascend : (g j : ℕ) → g < gateCount m → j + 1 < fanIn m g → childAt m g j < childAt m g (j + 1)
+
+-- 7: "Code record, 4 bytes: gate (u16), value 0 or 1, and a zero byte. Codes strictly ascend by gate." The gate is one of the map's.
+pub record CodesAllowed (m : List ℕ) : Type 0 where
+  pub gates : (r : ℕ) → r < codeCount m → codeGate m r < gateCount m
+  pub ascend : (r : ℕ) → r + 1 < codeCount m → codeGate m r < codeGate m (r + 1)
+  pub values : (r : ℕ) → r < codeCount m → codeValue m r ≤ 1
+  pub zeros : (r : ℕ) → r < codeCount m → codeZero m r ≡ 0
+
+-- All eight. 1: "The contents are six u16"; 2: "A map has 1 to 1,024 gates"; 4: "Kinds: .. Fan-in: .."; 8: "A coded gate is nobody's child."
+pub record Described (m : List ℕ) : Type 0 where
+  pub contents : 12 ≤ length m
+  pub few : (1 ≤ gateCount m) × (gateCount m ≤ 1024)
+  pub laid : Laid m
+  pub kinds : (g : ℕ) → g < gateCount m → FanInAllowed (kindByte m g) (fanIn m g)
+  pub summed : Summed m
+  pub ordered : Ordered m
+  pub codes : CodesAllowed m
   pub free : (g j r : ℕ) → g < gateCount m → j < fanIn m g → r < codeCount m → ¬ (childAt m g j ≡ codeGate m r)
 
--- Check accepts exactly such maps.
+-- The verdict is 0 exactly for such maps.
 abbrev pub MapAccepts : Type 0
-MapAccepts = (m : List ℕ) → (verdict m ≡ 0) ↔ Drawn m
+MapAccepts = (m : List ℕ) → (verdict m ≡ 0) ↔ Described m
 
--- Its tests are those of numbers 1 to 8, in this order.
-abbrev pub MapTestsInOrder : Type 0
-MapTestsInOrder = (m : List ℕ) → map (λ (t : ℕ × Bool). t .0) (mapTests m) ≡ 1 ∷ 2 ∷ 3 ∷ 4 ∷ 5 ∷ 6 ∷ 7 ∷ 8 ∷ []
+-- "A call declines on these conditions only, with the first that holds": the number n of a call is k where P, test k's fact, is not so; where it is, the rest says n.
+pub data Test (n k : ℕ) (P Rest : Type 0) : Type 0 where
+  passes : P → Rest → Test n k P Rest
+  fails : ¬ P → n ≡ k → Test n k P Rest
 
--- A declined map gives the number of the first that fails, and "the other numbers of its answer .. are then 0".
-pub record MapDeclined (m : List ℕ) (r : Said) : Type 0 where
-  pub numbered : (¬ (verdict m ≡ 0)) × (r .number ≡ verdict m)
+-- the number n of a call on the map m by tests 1 to 8, and where these pass by the rest
+abbrev pub MapNumber : ℕ → List ℕ → Type 0 → Type 0
+MapNumber n m Rest =
+    Test n 1 (12 ≤ length m) (
+    Test n 2 ((1 ≤ gateCount m) × (gateCount m ≤ 1024)) (
+    Test n 3 (Laid m) (
+    Test n 4 ((g : ℕ) → g < gateCount m → FanInAllowed (kindByte m g) (fanIn m g)) (
+    Test n 5 (Summed m) (
+    Test n 6 (Ordered m) (
+    Test n 7 (CodesAllowed m) (
+    Test n 8 ((g j r : ℕ) → g < gateCount m → j < fanIn m g → r < codeCount m → ¬ (childAt m g j ≡ codeGate m r)) Rest)))))))
+
+-- Check's number; which maps it accepts; its counts: "counts of gates, inputs, children and codes"; and a declined map's: "the other numbers of its answer .. are
+-- then 0".
+abbrev pub CheckNumber : Type 0
+CheckNumber = (m : List ℕ) → MapNumber (checked m .number) m (checked m .number ≡ 0)
+
+abbrev pub CheckAccepts : Type 0
+CheckAccepts = (m : List ℕ) → (checked m .accepted ≡ true) ↔ Described m
+
+pub record CheckMeans (m : List ℕ) (r : Said) : Type 0 where
+  pub number : r .number ≡ 0
+  pub gates : r .gates ≡ gateCount m
+  pub inputs : Size (λ g. (g < gateCount m) × (kindByte m g ≡ 0)) (r .inputs)
+  pub children : r .children ≡ childCount m
+  pub codes : r .codes ≡ codeCount m
+
+abbrev pub CheckSays : Type 0
+CheckSays = (m : List ℕ) → checked m .accepted ≡ true → CheckMeans m (checked m)
+
+pub record CheckDeclined (r : Said) : Type 0 where
+  pub numbered : ¬ (r .number ≡ 0)
   pub zeros : (r .gates ≡ 0) × ((r .inputs ≡ 0) × ((r .children ≡ 0) × (r .codes ≡ 0)))
 
-abbrev pub MapDeclines : Type 0
-MapDeclines = (m : List ℕ) → checked m .accepted ≡ false → MapDeclined m (checked m)
+abbrev pub CheckDeclines : Type 0
+CheckDeclines = (m : List ℕ) → checked m .accepted ≡ false → CheckDeclined (checked m)
 
 -- ---- what inner functions go by
 
@@ -165,7 +206,7 @@ pub record Sound (m : List ℕ) : Type 0 where
   pub below : (g j : ℕ) → g < gateCount m → j < fanIn m g → childAt m g j < g
   pub coded-gate : (r : ℕ) → r < codeCount m → codeGate m r < gateCount m
 
--- and of 2, 4, 8 and the rest of 6 and 7: the facts of an accepted map that inner functions go by (`Drawn` has all)
+-- and of 2, 4, 8 and the rest of 6 and 7: the facts of an accepted map that inner functions go by (`Described` has all)
 pub record IsMap (m : List ℕ) : Type 0 where
   pub sound : Sound m
   pub some-gate : 1 ≤ gateCount m
@@ -175,12 +216,14 @@ pub record IsMap (m : List ℕ) : Type 0 where
   pub code-values : (r : ℕ) → r < codeCount m → codeValue m r ≤ 1
   pub free : (g j : ℕ) → g < gateCount m → j < fanIn m g → coded (circuit m) (childAt m g j) ≡ false
 
--- A map that Check accepts is one of the section 'The map' and has these facts, its circuit is well formed, the code of a gate is the value in its record,
--- and "Gate 0 of an accepted map is always an input."
+-- A map that Check accepts has these facts, and its circuit is well formed and has the bytes' kinds, children and codes. "Gate 0 of an accepted map is always an
+-- input."
 pub record AcceptedMap (m : List ℕ) : Type 0 where
-  pub drawn : Drawn m
   pub facts : IsMap m
   pub circuit-is : WellFormed (circuit m)
+  pub kinds-are : (g : ℕ) → g < gateCount m → kindNumber (circuit m .kind g) ≡ kindByte m g
+  pub fan-ins-are : (g : ℕ) → length (circuit m .kids g) ≡ fanIn m g
+  pub kids-are : (g j : ℕ) → j < fanIn m g → getD (circuit m .kids g) j 0 ≡ childAt m g j
   pub codes-are : (g : ℕ) (v : Bool) → (circuit m .code g ≡ some v) ↔ ((r : ℕ) × (r < codeCount m) × (codeGate m r ≡ g) × (codeValue m r ≡ byte v))
   pub gate-zero : kindByte m 0 ≡ 0
 

@@ -18,6 +18,8 @@ use Rattle.circuit.specs.Survey.{survey}
 use Rattle.circuit.specs.Run.{Ended, run, answer}
 use Rattle.circuit.specs.Promise.{config, Promised, FinishingTape}
 use Rattle.circuit.proofs.Values.{bit-same}
+use Rattle.circuit.proofs.Evaluate.{row-is, row-first, evaluate-again}
+use Rattle.circuit.proofs.Survey.{differ-is}
 use Rattle.circuit.proofs.Found.{answer-is}
 use Rattle.circuit.proofs.Trace.{demand2-on-circuits}
 use Rattle.circuit.proofs.Turns.{differ-most}
@@ -26,44 +28,45 @@ use Rattle.map.specs.Map.{gateCount, codeCount, codeGate, codeValue, circuit}
 use Rattle.map.specs.Check.{firstFailed, mapTests, verdict, IsMap}
 use Rattle.map.proofs.Accepted.{facts, well-formed}
 use Rattle.map.proofs.Codes.{code-found}
-use Rattle.map.proofs.Drawn.{map-accepts, map-tests-in-order, map-declines, accepted-maps}
+use Rattle.map.proofs.Described.{map-accepts, check-number, check-accepts, check-says, check-declines, accepted-maps}
 use Rattle.map.proofs.Parts.{stretch-is}
 use Rattle.state.specs.State.{over}
 use Rattle.state.proofs.Over.{over-first, over-rest, over-long}
-use Rattle.state.proofs.Meaning.{evaluate-writes, evaluate-accepts, evaluate-tests-in-order, evaluate-declines, mark-says, mark-accepts, mark-tests-in-order, mark-declines}
-use Rattle.survey.proofs.Meaning.{survey-writes, survey-accepts, survey-tests-in-order, survey-declines}
+use Rattle.state.proofs.Meaning.{evaluate-writes, evaluate-accepts, evaluate-number, evaluate-declines, mark-says, mark-accepts, mark-number, mark-declines}
+use Rattle.survey.proofs.Meaning.{survey-writes, survey-accepts, survey-number, survey-declines}
 use Rattle.search.specs.Tape.{entries}
-use Rattle.search.specs.Run.{tapeTests, runTests, told, answered, ran, runningBy, running, Room, Runnable}
+use Rattle.search.specs.Run.{tapeTests, runTests, Told, told, answered, ran, runningBy, running, Room, Runnable}
 use Rattle.search.specs.Demands.{Satisfies, FoundWrites, RunMeans, Demand1, Demand2, SameRun, SameForAllMemories, AreDraws, Way, Plain, tapeOf, Finishing, Demand3}
-use Rattle.search.proofs.Meaning.{move-writes, move-accepts, move-tests-in-order, move-declines}
-use Rattle.search.proofs.Runs.{survey-length, answer-length}
-use Rattle.search.proofs.RunMeaning.{run-ends, of-room, none, written, runnable, of-runnable, found-accepted, run-accepts, run-tests-in-order, run-declines}
-use Rattle.search.proofs.Tapes.{entries-length, entry-is, waysOf, ways-length, ways-plain, entries-back, tape-length, tape-kinds, tape-bytes}
+use Rattle.search.proofs.Meaning.{move-writes, move-accepts, move-number, move-declines}
+use Rattle.search.proofs.Runs.{run-few, front-few, survey-length, answer-length}
+use Rattle.search.proofs.RunMeaning.{run-ends, of-room, none, written, runnable, of-runnable, found-accepted, run-accepts, run-number, run-declines}
+use Rattle.search.proofs.Tapes.{entries-length, entry-is, entry-read, waysOf, ways-length, ways-plain, entries-back, tape-length, tape-kinds, tape-bytes}
 
 -- ---- demand 1
 
 pub demand1 : Demand1
 demand1 = record {
-  check-accepts = map-accepts;
-  check-in-order = map-tests-in-order;
-  check-declines = map-declines;
+  check-number = check-number;
+  check-accepts = check-accepts;
+  check-declines = check-declines;
+  check-says = check-says;
   children = stretch-is;
   evaluate-accepts = evaluate-accepts;
-  evaluate-in-order = evaluate-tests-in-order;
+  evaluate-number = evaluate-number;
   evaluate-declines = evaluate-declines;
   evaluate-writes = evaluate-writes;
   mark-accepts = mark-accepts;
-  mark-in-order = mark-tests-in-order;
+  mark-number = mark-number;
   mark-declines = mark-declines;
   mark-says = mark-says;
   survey-accepts = survey-accepts;
-  survey-in-order = survey-tests-in-order;
+  survey-number = survey-number;
   survey-declines = survey-declines;
   move-accepts = move-accepts;
-  move-in-order = move-tests-in-order;
+  move-number = move-number;
   move-declines = move-declines;
   run-accepts = run-accepts;
-  run-in-order = run-tests-in-order;
+  run-number = run-number;
   run-declines = run-declines;
 }
 
@@ -73,7 +76,7 @@ demand1 = record {
 shown : (m : List ℕ) → IsMap m → (a rest : List ℕ) → Satisfying (circuit m) a → (r : ℕ) → r < codeCount m → getD (a ++ rest) (codeGate m r) 0 ≡ codeValue m r
 shown m k a rest w r h =
     let g = k .sound .coded-gate r h in
-    let v = w .shows (codeGate m r) g (eqb (codeValue m r) 1) (code-found m k (codeCount m) r h (omega arith)) in
+    let v = w .shows (codeGate m r) g (eqb (codeValue m r) 1) (code-found m (k .codes-ascend) (codeCount m) r h (omega arith)) in
     List·getD-append a rest 0 (codeGate m r) (omega (arith, w .configuration .long))
     ∙ bit-same (getD a (codeGate m r) 0) (codeValue m r) (w .configuration .bits (codeGate m r)) (k .code-values r h) v
 
@@ -101,10 +104,18 @@ module _ (m s tape work ans : List ℕ) (a : Runnable m s tape work ans) where
       record {
         answered = rw first w;
         marked = rw first (mark-says m (answer (circuit m) (end .last)) .1 (a .accepted, promised .shows f));
+        row = rw (row-first (circuit m) (answer (circuit m) (end .last)) _ l, first)
+            (row-is (circuit m) (answer (circuit m) (end .last)) (w .configuration), evaluate-again (circuit m) ok (answer (circuit m) (end .last)) (w .configuration) (w .obeys));
         codes = λ r h. shown m (facts m (a .accepted)) (answer (circuit m) (end .last)) _ (promised .shows f) r h;
         surplus = over-rest (answer (circuit m) (end .last)) ans (gateCount m) l;
         long = over-long (answer (circuit m) (end .last)) ans (gateCount m) l (a .room .answer-room);
       }
+
+  bounds : (end .outcome .moves ≤ 16383) × ((end .outcome .flips ≤ 8 * end .outcome .moves) × (told (end .outcome .ending) .front ≤ 1024))
+  bounds =
+      let (i, j) = run-few (circuit m) ok s (a .start) (entries tape) in
+      let f = ap (λ (t : Told). t .front) (run-ends (circuit m) s (entries tape)) in
+      (omega (arith, i, entries-length tape (a .whole-entries), a .not-longer), (j, omega (arith, f, front-few (circuit m) (end .last), facts m (a .accepted) .sound .placed .shaped .few)))
 
   means : RunMeans m s tape work ans (ran (circuit m) end work ans)
   means =
@@ -113,9 +124,10 @@ module _ (m s tape work ans : List ℕ) (a : Runnable m s tape work ans) where
         accepted = a .accepted;
         start = a .start;
         entries-are = entries-length tape (a .whole-entries);
-        entry-is = entry-is tape (a .whole-entries);
+        entry-is = λ d i h. rw (entry-is tape (a .whole-entries) d i h) (entry-read tape (4 * i) (a .kinds i h));
         promised = promised;
         told = run-ends (circuit m) s (entries tape);
+        bounds = bounds;
         surveyed = over-first (survey (circuit m) (end .last)) work (gateCount m) l;
         work-surplus = over-rest (survey (circuit m) (end .last)) work (gateCount m) l;
         work-long = over-long (survey (circuit m) (end .last)) work (gateCount m) l (a .room .work-room);
@@ -226,10 +238,15 @@ zeros-are-draws zero = λ d i. absurd (nowhere i)
 zeros-are-draws (suc n) = λ d i. elim (cases i) [ inl q ↦ rw q (omega arith) | inr j ↦ zeros-are-draws n d j ]
 
 pub demand3 : Demand3
-demand3 m s v k = record {
-  only = only m s;
-  some-tape = λ a y. (let n = differ (circuit m) s a in
-      let f = bounded m s v k a y (replicate n 0) (zeros-are-draws n) (length-replicate n 0) in
-      (tapeOf (replicate n 0) (f .ways), f .bytes, λ work ans r. f .run-finds work ans r .found));
-  bounded = bounded m s v k;
+demand3 = record {
+  maps = map-accepts;
+  satisfying = mark-says;
+  counted = differ-is;
+  from = λ m s v k. record {
+    only = only m s;
+    some-tape = λ a y. (let n = differ (circuit m) s a in
+        let f = bounded m s v k a y (replicate n 0) (zeros-are-draws n) (length-replicate n 0) in
+        (tapeOf (replicate n 0) (f .ways), f .bytes, λ work ans r. f .run-finds work ans r .found));
+    bounded = bounded m s v k;
+  };
 }

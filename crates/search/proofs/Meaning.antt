@@ -1,7 +1,7 @@
 -- What Move means. Assumes nothing.
 use Prim.Native.Nat.{ℕ, _+_, _*_, _/_, _≤_}
 use mathlib.Core.Path.{_≡_, refl, sym, _∙_}
-use mathlib.Core.Bool.{true, false, false≢true, true≢false}
+use mathlib.Core.Bool.{true, not, false≢true, true≢false}
 use mathlib.Core.Logic.{inl, inr}
 use mathlib.Core.List.{List, _++_}
 use native.Mathlib.Omega.{arith}
@@ -17,17 +17,30 @@ use Rattle.circuit.specs.Promise.{NoFront}
 use Rattle.circuit.proofs.Survey.{survey-is}
 use Rattle.circuit.proofs.Moves.{no-front, some-front, entry-done}
 use Rattle.map.specs.Map.{gateCount, circuit}
-use Rattle.map.specs.Check.{firstFailed, contentsTests, bodiesTests, mapTests, verdict}
+use Rattle.map.specs.Check.{firstFailed, mapTests, IsMap}
 use Rattle.map.proofs.Laws.{past, no-test, none-failed, passed-before}
 use Rattle.map.proofs.Accepted.{facts, well-formed}
 use Rattle.map.proofs.Answers.{behind-accepted}
-use Rattle.state.specs.State.{configurationTests, over}
+use Rattle.map.proofs.Described.{tested, map-number}
+use Rattle.state.specs.State.{over}
 use Rattle.state.proofs.Over.{over-first, over-rest, over-long}
 use Rattle.state.proofs.Meaning.{behind}
 use Rattle.survey.specs.Survey.{startTests}
-use Rattle.survey.proofs.Starts.{behind-start, start-of, of-start}
+use Rattle.survey.proofs.Starts.{behind-start, start-of, of-start, start-number}
 use Rattle.search.specs.Tape.{entryAt, kindsTest}
-use Rattle.search.specs.Move.{frontTest, entryTests, moveTests, movingBy, moving, MoveWrites, Movable, MoveAccepts, MoveTestsInOrder, MoveDeclines}
+use Rattle.search.specs.Move.{frontTest, entryTests, moveTests, movingBy, moving, MoveWrites, Movable, MoveAccepts, MoveNumber, MoveDeclines}
+use Rattle.search.proofs.Tapes.{entry-read}
+
+-- test 15
+module _ (m s : List ℕ) (k : IsMap m) where
+  front-of : not (isEmpty (front (circuit m) s)) ≡ true → ¬ NoFront (circuit m) s
+  front-of e = some-front (circuit m) (well-formed m k) s (not-true _ e)
+
+  of-front : ¬ NoFront (circuit m) s → not (isEmpty (front (circuit m) s)) ≡ true
+  of-front h = elim (which (isEmpty (front (circuit m) s))) [
+    | inl q ↦ absurd (h (no-front (circuit m) (well-formed m k) s q))
+    | inr q ↦ rw q
+  ]
 
 module _ (m s entry work : List ℕ) where
   abbrev number : ℕ
@@ -38,6 +51,13 @@ module _ (m s entry work : List ℕ) where
   none e = elim (which (eqb number 0)) [
     | inl q ↦ eqb-true number 0 q
     | inr q ↦ absurd (false≢true (rw q at e))
+  ]
+
+  number-is : moving m s entry work .number ≡ number
+  unfolding moving movingBy
+  number-is = elim (which (eqb number 0)) [
+    | inl q ↦ rw q (sym (eqb-true number 0 q))
+    | inr q ↦ rw q refl
   ]
 
   accepted : number ≡ 0 → moving m s entry work .accepted ≡ true
@@ -70,7 +90,7 @@ module _ (m s entry work : List ℕ) where
         four-bytes = four;
         kind = kind-of four (t13 .0);
         room = leb-true _ _ (t14 .0);
-        some-front = some-front (circuit m) (well-formed m (facts m v)) s (not-true _ (t15 .0));
+        some-front = front-of m s (facts m v) (t15 .0);
       }
 
   of-movable : Movable m s entry work → number ≡ 0
@@ -81,10 +101,7 @@ module _ (m s entry work : List ℕ) where
       ∙ past _ _ _ (eq-eqb _ _ (a .four-bytes))
       ∙ past _ _ _ (of-kind (a .four-bytes) (a .kind))
       ∙ past _ _ _ (le-leb _ _ (a .room))
-      ∙ past _ _ _ (elim (which (isEmpty (front (circuit m) s))) [
-        | inl q ↦ absurd (a .some-front (no-front (circuit m) (well-formed m (facts m (a .accepted))) s q))
-        | inr q ↦ rw q
-      ])
+      ∙ past _ _ _ (of-front m s (facts m (a .accepted)) (a .some-front))
       ∙ no-test
 
   written : number ≡ 0 → moving m s entry work ≡ record {
@@ -103,11 +120,12 @@ move-writes m s entry work e =
     let n = none m s entry work e in
     let a = movable m s entry work n in
     let ok = well-formed m (facts m (a .accepted)) in
-    let d = entry-done (circuit m) ok s (a .start) (some-of m s (a .accepted) (a .some-front)) (entryAt entry 0) in
+    let d = entry-done (circuit m) ok s (a .start) (not-true _ (of-front m s (facts m (a .accepted)) (a .some-front))) (entryAt entry 0) in
     let l : length (survey (circuit m) (move (circuit m) s (entryAt entry 0) .next)) ≡ gateCount m = survey-is (circuit m) ok (move (circuit m) s (entryAt entry 0) .next) .long in
     rw (written m s entry work n) (record {
       accepted = a .accepted;
       start = a .start;
+      read = entry-read entry 0 (a .kind);
       does = d;
       number = refl;
       gate = (refl, d .in-front);
@@ -118,23 +136,25 @@ move-writes m s entry work e =
       surplus = over-rest (survey (circuit m) (move (circuit m) s (entryAt entry 0) .next)) work (gateCount m) l;
       long = over-long (survey (circuit m) (move (circuit m) s (entryAt entry 0) .next)) work (gateCount m) l (a .room);
     })
-  where
-    some-of : (m s : List ℕ) → verdict m ≡ 0 → ¬ NoFront (circuit m) s → isEmpty (front (circuit m) s) ≡ false
-    some-of m s v h = elim (which (isEmpty (front (circuit m) s))) [
-      | inl q ↦ absurd (h (no-front (circuit m) (well-formed m (facts m v)) s q))
-      | inr q ↦ q
-    ]
 
 pub move-accepts : MoveAccepts
 move-accepts m s entry work = (λ e. movable m s entry work (none m s entry work e), λ a. accepted m s entry work (of-movable m s entry work a))
 
-pub move-tests-in-order : MoveTestsInOrder
-unfolding mapTests contentsTests bodiesTests moveTests startTests configurationTests entryTests
-move-tests-in-order m s entry work = refl
+pub move-number : MoveNumber
+unfolding moveTests entryTests frontTest
+move-number m s entry work =
+    let n = moving m s entry work .number in
+    map-number m _ n _ (number-is m s entry work) λ v e.
+    start-number m s _ n _ (facts m v) e λ e11.
+    tested 12 _ _ n _ _ e11 (eqb-true _ _) (eq-eqb _ _) λ q12 e12.
+    tested 13 _ _ n _ _ e12 (kind-of m s entry work (eqb-true _ _ q12)) (of-kind m s entry work (eqb-true _ _ q12)) λ q13 e13.
+    tested 14 _ _ n _ _ e13 (leb-true _ _) (le-leb _ _) λ q14 e14.
+    tested 15 _ _ n _ _ e14 (front-of m s (facts m v)) (of-front m s (facts m v)) λ q15 e15.
+    e15 ∙ no-test
 
 pub move-declines : MoveDeclines
 unfolding moving movingBy
 move-declines m s entry work e = elim (which (eqb (number m s entry work) 0)) [
   | inl q ↦ absurd (true≢false (rw q at e))
-  | inr q ↦ rw q (record { numbered = (eqb-false (number m s entry work) 0 q, refl); zeros = (refl, refl); untouched = (refl, refl) })
+  | inr q ↦ rw q (record { numbered = eqb-false (number m s entry work) 0 q; zeros = (refl, refl); untouched = (refl, refl) })
 ]

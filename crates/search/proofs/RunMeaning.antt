@@ -1,5 +1,5 @@
 -- Which calls Run accepts, and what a declined one gives. Assumes nothing.
-use Prim.Native.Nat.{ℕ}
+use Prim.Native.Nat.{ℕ, _%_, _≤_}
 use mathlib.Core.Path.{_≡_, refl, sym, ap, _∙_}
 use mathlib.Core.Bool.{Bool, true, false≢true, true≢false}
 use mathlib.Core.Logic.{inl, inr}
@@ -18,24 +18,25 @@ use Rattle.circuit.specs.Survey.{front, frontSize}
 use Rattle.circuit.specs.Run.{move, Ended, stop, run}
 use Rattle.circuit.proofs.Trace.{run-found, run-spent, run-step}
 use Rattle.map.specs.Map.{gateCount, circuit}
-use Rattle.map.specs.Check.{firstFailed, contentsTests, bodiesTests, mapTests}
+use Rattle.map.specs.Check.{firstFailed, mapTests}
 use Rattle.map.proofs.Laws.{past, no-test, none-failed, passed-before}
+use Rattle.map.proofs.Accepted.{facts}
 use Rattle.map.proofs.Answers.{behind-accepted}
-use Rattle.state.specs.State.{configurationTests}
+use Rattle.map.proofs.Described.{tested, map-number}
 use Rattle.state.proofs.Meaning.{behind}
 use Rattle.survey.specs.Survey.{startTests}
-use Rattle.survey.proofs.Starts.{behind-start, start-of, of-start}
+use Rattle.survey.proofs.Starts.{behind-start, start-of, of-start, start-number}
 use Rattle.search.specs.Tape.{entries, tapeTest}
-use Rattle.search.specs.Run.{tapeTests, runTests, Told, told, ran, runningBy, running, Room, Runnable, RunAccepts, RunTestsInOrder, RunDeclines}
+use Rattle.search.specs.Run.{tapeTests, runTests, Told, told, ran, runningBy, running, Room, Runnable, RunAccepts, RunNumber, RunDeclines}
 use Rattle.search.proofs.Tapes.{kinds-of, of-kinds}
 
--- how a run on a circuit ends: it is never refused, and the front that its ending carries is that of the last configuration
+-- how a run on a circuit ends: it is never refused, it found where the last configuration has no front, and the front that its ending carries is that one's
 abbrev pub Ends : Circuit → Ended → Type 0
-Ends c r = told (r .outcome .ending) ≡ record { accepted = true; number = 0; front = frontSize c (r .last) }
+Ends c r = told (r .outcome .ending) ≡ record { accepted = true; found = isEmpty (front c (r .last)); number = 0; front = frontSize c (r .last) }
 
 ends-found : (c : Circuit) (s : List ℕ) → isEmpty (front c s) ≡ true → Ends c (stop Found s)
 unfolding frontSize
-ends-found c s q = ap (λ (n : ℕ). record { accepted = true; number = 0; front = n }) (sym (none-of (front c s) q))
+ends-found c s q = rw (q, none-of (front c s) q)
   where
     none-of : (xs : List ℕ) → isEmpty xs ≡ true → length xs ≡ 0
     none-of [] e = refl
@@ -44,12 +45,19 @@ ends-found c s q = ap (λ (n : ℕ). record { accepted = true; number = 0; front
 pub run-ends : (c : Circuit) (s : List ℕ) (es : List Entry) → Ends c (run c s es)
 run-ends c s [] = elim (which (isEmpty (front c s))) [
   | inl q ↦ rw (run-found c s [] q) (ends-found c s q)
-  | inr q ↦ rw (run-spent c s q) refl
+  | inr q ↦ rw (run-spent c s q, q)
 ]
 run-ends c s (e ∷ es) = elim (which (isEmpty (front c s))) [
   | inl q ↦ rw (run-found c s (e ∷ es) q) (ends-found c s q)
   | inr q ↦ rw (run-step c s e es q) (run-ends c (move c s e .next) es)
 ]
+
+-- test 12
+length-of : (tape : List ℕ) → eqb (length tape % 4) 0 and leb (length tape) 65532 ≡ true → (length tape % 4 ≡ 0) × (length tape ≤ 65532)
+length-of tape e = (eqb-true _ _ (and-left _ _ e), leb-true _ _ (and-right _ _ e))
+
+of-length : (tape : List ℕ) → (length tape % 4 ≡ 0) × (length tape ≤ 65532) → eqb (length tape % 4) 0 and leb (length tape) 65532 ≡ true
+of-length tape p = and-both _ _ (eq-eqb _ _ (p .0)) (le-leb _ _ (p .1))
 
 -- test 14
 module _ (m work ans : List ℕ) where
@@ -84,6 +92,13 @@ module _ (m s tape work ans : List ℕ) where
     | inr q ↦ absurd (false≢true (ap (λ (e : Ending). told e .accepted) (rw q at f)))
   ]
 
+  number-is : running m s tape work ans .told .number ≡ number
+  unfolding running runningBy
+  number-is = elim (which (eqb number 0)) [
+    | inl q ↦ rw q (ap (λ (t : Told). t .number) (run-ends (circuit m) s (entries tape)) ∙ sym (eqb-true number 0 q))
+    | inr q ↦ rw q refl
+  ]
+
   accepted : number ≡ 0 → running m s tape work ans .told .accepted ≡ true
   accepted e = rw (written e) (ap (λ (t : Told). t .accepted) (run-ends (circuit m) s (entries tape)))
 
@@ -95,12 +110,12 @@ module _ (m s tape work ans : List ℕ) where
       let k = passed-before (startTests m s) _ t in
       let t12 = none-failed 11 _ _ (sym (behind-start m s _ k) ∙ t) in
       let t13 = none-failed 12 _ _ (t12 .1) in
-      let whole = eqb-true _ _ (and-left _ _ (t12 .0)) in
+      let (whole, few) = length-of tape (t12 .0) in
       record {
         accepted = v;
         start = start-of m s k;
         whole-entries = whole;
-        not-longer = leb-true _ _ (and-right _ _ (t12 .0));
+        not-longer = few;
         kinds = kinds-of tape whole (t13 .0);
         room = room-of m work ans (none-failed 13 _ _ (t13 .1) .0);
       }
@@ -110,7 +125,7 @@ module _ (m s tape work ans : List ℕ) where
   of-runnable a =
       behind-accepted m _ (a .accepted)
       ∙ behind-start m s _ (of-start m s (a .start))
-      ∙ past _ _ _ (and-both _ _ (eq-eqb _ _ (a .whole-entries)) (le-leb _ _ (a .not-longer)))
+      ∙ past _ _ _ (of-length tape (a .whole-entries, a .not-longer))
       ∙ past _ _ _ (of-kinds tape (a .whole-entries) (a .kinds))
       ∙ past _ _ _ (of-room m work ans (a .room))
       ∙ no-test
@@ -121,13 +136,20 @@ run-accepts m s tape work ans = (
   λ a. accepted m s tape work ans (of-runnable m s tape work ans a),
 )
 
-pub run-tests-in-order : RunTestsInOrder
-unfolding mapTests contentsTests bodiesTests runTests startTests configurationTests tapeTests
-run-tests-in-order m s tape work ans = refl
+pub run-number : RunNumber
+unfolding runTests tapeTests tapeTest
+run-number m s tape work ans =
+    let n = running m s tape work ans .told .number in
+    map-number m _ n _ (number-is m s tape work ans) λ v e.
+    start-number m s _ n _ (facts m v) e λ e11.
+    tested 12 _ _ n _ _ e11 (length-of tape) (of-length tape) λ q12 e12.
+    tested 13 _ _ n _ _ e12 (kinds-of tape (length-of tape q12 .0)) (of-kinds tape (length-of tape q12 .0)) λ q13 e13.
+    tested 14 _ _ n _ _ e13 (room-of m work ans) (of-room m work ans) λ q14 e14.
+    e14 ∙ no-test
 
 pub run-declines : RunDeclines
 unfolding running runningBy
 run-declines m s tape work ans e = elim (which (eqb (number m s tape work ans) 0)) [
   | inl q ↦ absurd (true≢false (sym (accepted m s tape work ans (eqb-true (number m s tape work ans) 0 q)) ∙ e))
-  | inr q ↦ rw q (record { numbered = (eqb-false (number m s tape work ans) 0 q, refl); zeros = (refl, (refl, refl)); untouched = (refl, (refl, refl)) })
+  | inr q ↦ rw q (record { numbered = eqb-false (number m s tape work ans) 0 q; zeros = (refl, (refl, refl)); untouched = (refl, (refl, refl)) })
 ]

@@ -3,7 +3,7 @@ use Prim.Native.Nat.{ℕ, zero, suc, _+_, _*_, _/_, _%_, _≤_}
 use mathlib.Core.Path.{_≡_, refl, sym, ap, _∙_}
 use mathlib.Core.Bool.{true, false}
 use mathlib.Core.Logic.{inl, inr}
-use mathlib.Core.List.{List, _∷_, _++_, append-nil}
+use mathlib.Core.List.{List, [], _∷_, _++_, append-nil}
 use native.Mathlib.Nat.{zero-add, add-zero}
 use native.Mathlib.Omega.{arith}
 use lib.ListN.{length, take, drop}
@@ -18,9 +18,10 @@ use Rattle.circuit.specs.declared.Outcome.{Outcome}
 use Rattle.folds.specs.Folds.{_and_}
 use Rattle.circuit.specs.Circuit.{Circuit, WellFormed, on}
 use Rattle.circuit.specs.Evaluate.{KeepsCodes}
-use Rattle.circuit.specs.Tools.{byte}
-use Rattle.circuit.specs.Survey.{cone, inFront, interest, survey, frontSize}
+use Rattle.circuit.specs.Tools.{byte, upTo, isEmpty}
+use Rattle.circuit.specs.Survey.{cone, inFront, front, interest, survey, frontSize}
 use Rattle.circuit.specs.Run.{move, Ended, stop, after, run, answer}
+use Rattle.circuit.proofs.Lists.{select-length, length-upTo}
 use Rattle.circuit.proofs.Evaluate.{values-length}
 use Rattle.circuit.proofs.Moves.{entry-done}
 use Rattle.circuit.proofs.Trace.{run-found, run-spent, run-step}
@@ -120,6 +121,25 @@ module _ (c : Circuit) (start tape : List ℕ) where
         next-entry : (n : ℕ) → g .left ≡ suc n
             → run c s (entriesFrom tape at (g .left)) ≡ after (move c s (entryAt tape at) .flips) (run c (move c s (entryAt tape at) .next) (entriesFrom tape (at + 4) n))
         next-entry n q = ap (λ (l : ℕ). run c s (entriesFrom tape at l)) q ∙ ap (run c s) (entries-more tape at n) ∙ run-step c s (entryAt tape at) (entriesFrom tape (at + 4) n) (front-some c s h)
+
+-- ---- how far a run may go
+
+pub run-few : (c : Circuit) → WellFormed c → (s : List ℕ) → KeepsCodes c s → (es : List Entry)
+    → (run c s es .outcome .moves ≤ length es) × (run c s es .outcome .flips ≤ 8 * run c s es .outcome .moves)
+run-few c ok s k [] = elim (which (isEmpty (front c s))) [
+  | inl q ↦ rw (run-found c s [] q) (omega arith, omega arith)
+  | inr q ↦ rw (run-spent c s q) (omega arith, omega arith)
+]
+run-few c ok s k (e ∷ es) = elim (which (isEmpty (front c s))) [
+  | inl q ↦ rw (run-found c s (e ∷ es) q) (omega arith, omega arith)
+  | inr q ↦ (let d = entry-done c ok s k q e in
+      let (i, j) = run-few c ok (move c s e .next) (d .keeps) es in
+      rw (run-step c s e es q) (omega (arith, i), omega (arith, j, d .few)))
+]
+
+pub front-few : (c : Circuit) (s : List ℕ) → frontSize c s ≤ c .gates
+unfolding frontSize front
+front-few c s = omega (arith, select-length (inFront c s) (upTo (c .gates)), length-upTo (c .gates))
 
 -- ---- the cursor
 

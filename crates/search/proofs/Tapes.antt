@@ -16,7 +16,7 @@ use Rattle.circuit.specs.declared.Choice.the-variants.{Greedy, Down, Up}
 use Rattle.circuit.specs.declared.Entry.{Entry}
 use Rattle.circuit.specs.Promise.{NotGreedy, optionByte}
 use Rattle.map.specs.Map.{u16At}
-use Rattle.search.specs.Tape.{choiceOf, entryAt, entriesFrom, entries, kindsTest}
+use Rattle.search.specs.Tape.{choiceOf, entryAt, Says, EntryRead, entriesFrom, entries, kindsTest}
 use Rattle.search.specs.Demands.{AreBytes, AreDraws, Way, Plain, tapeOf}
 
 -- ---- reading
@@ -40,6 +40,17 @@ module _ (t : List ℕ) where
   pub entry-is : length t % 4 ≡ 0 → (d : Entry) (i : ℕ) → 4 * i < length t → getD (entries t) i d ≡ entryAt t (4 * i)
   unfolding entries
   entry-is e d i h = entry-from d 0 (length t / 4) i (omega arith) ∙ ap (entryAt t) (omega arith)
+
+  -- the four bytes of an entry whose kind is up to 2
+  pub entry-read : (at : ℕ) → getD t (at + 2) 0 ≤ 2 → EntryRead t at (entryAt t at)
+  unfolding entryAt u16At
+  entry-read at h = record { draw = refl; choice = says (getD t (at + 2) 0) (getD t (at + 3) 0) h }
+    where
+      says : (k i : ℕ) → k ≤ 2 → Says (choiceOf k i) k i
+      says zero i h = (refl, refl)
+      says (suc zero) i h = (refl, refl)
+      says (suc (suc zero)) i h = (refl, refl)
+      says (suc (suc (suc k))) i h = absurd (omega arith)
 
   -- from a place p on: the bytes, the entries
   module _ (p : ℕ) where

@@ -6,17 +6,19 @@ use mathlib.Core.List.{List, [], _∷_, map, List·Memᴰ as In}
 use lib.ListN.{length, getD, take, drop}
 use Rattle.circuit.specs.declared.Ending.the-variants.{Found}
 use Rattle.circuit.specs.declared.Entry.{Entry}
-use Rattle.circuit.specs.Evaluate.{KeepsCodes, differ}
-use Rattle.circuit.specs.Survey.{survey, frontSize}
+use Rattle.circuit.specs.Evaluate.{Row, rowOf, evaluate, KeepsCodes, differ}
+use Rattle.circuit.specs.Tools.{isEmpty}
+use Rattle.circuit.specs.Survey.{front, survey, frontSize}
+use Rattle.circuit.specs.Source001.{DifferIs}
 use Rattle.circuit.specs.Promise.{Answered, config, Promised, Demand2OnCircuits}
 use Rattle.map.specs.Map.{gateCount, codeCount, codeGate, codeValue, circuit}
-use Rattle.map.specs.Check.{verdict, MapAccepts, MapTestsInOrder, MapDeclines, AcceptedMaps}
+use Rattle.map.specs.Check.{verdict, MapAccepts, CheckNumber, CheckAccepts, CheckDeclines, CheckSays, AcceptedMaps}
 use Rattle.map.specs.Children.{StretchIs}
-use Rattle.state.specs.State.{marking, EvaluateWrites, EvaluateAccepts, EvaluateTestsInOrder, EvaluateDeclines, MarkSays, MarkAccepts, MarkTestsInOrder, MarkDeclines}
-use Rattle.survey.specs.Survey.{SurveyWrites, SurveyAccepts, SurveyTestsInOrder, SurveyDeclines}
-use Rattle.search.specs.Tape.{entryAt, entries}
-use Rattle.search.specs.Move.{MoveWrites, MoveAccepts, MoveTestsInOrder, MoveDeclines}
-use Rattle.search.specs.Run.{Running, running, Room, RunAccepts, RunTestsInOrder, RunDeclines}
+use Rattle.state.specs.State.{marking, EvaluateWrites, EvaluateAccepts, EvaluateNumber, EvaluateDeclines, MarkSays, MarkAccepts, MarkNumber, MarkDeclines}
+use Rattle.survey.specs.Survey.{SurveyWrites, SurveyAccepts, SurveyNumber, SurveyDeclines}
+use Rattle.search.specs.Tape.{EntryRead, entries}
+use Rattle.search.specs.Move.{MoveWrites, MoveAccepts, MoveNumber, MoveDeclines}
+use Rattle.search.specs.Run.{Running, running, Room, RunAccepts, RunNumber, RunDeclines}
 
 -- "Such a configuration is a satisfying assignment.": one to which Mark says yes
 abbrev pub Satisfies : List ℕ → List ℕ → Type 0
@@ -25,59 +27,64 @@ Satisfies m a = marking m a .yes ≡ true
 -- ---- demand 1
 
 -- "A refused call gives the number that document 01 names and leaves all lent bytes untouched; an accepted one leaves what document 01 states."
--- Of each call: which inputs it accepts, "on these conditions only"; that its tests have document 01's numbers in their order; what a declined call, by the
--- first that fails, gives and leaves; and what an accepted one does. What Survey, Move and Run do is in demand 2. (The demand's first sentence, on the
--- ends of memory and the end of calls, Rattle asks of every function.)
+-- Of each call its number, by document 01's conditions in their order; which inputs it accepts; what a declined call gives and leaves beside the
+-- number; and what an accepted one does. What Survey, Move and Run do is in demand 2. (The demand's first sentence, on the ends of memory and the
+-- end of calls, Rattle asks of every function.)
 pub record Demand1 : Type 0 where
-  pub check-accepts : MapAccepts
-  pub check-in-order : MapTestsInOrder
-  pub check-declines : MapDeclines
+  pub check-number : CheckNumber
+  pub check-accepts : CheckAccepts
+  pub check-declines : CheckDeclines
+  pub check-says : CheckSays
   pub children : StretchIs
+  pub evaluate-number : EvaluateNumber
   pub evaluate-accepts : EvaluateAccepts
-  pub evaluate-in-order : EvaluateTestsInOrder
   pub evaluate-declines : EvaluateDeclines
   pub evaluate-writes : EvaluateWrites
+  pub mark-number : MarkNumber
   pub mark-accepts : MarkAccepts
-  pub mark-in-order : MarkTestsInOrder
   pub mark-declines : MarkDeclines
   pub mark-says : MarkSays
+  pub survey-number : SurveyNumber
   pub survey-accepts : SurveyAccepts
-  pub survey-in-order : SurveyTestsInOrder
   pub survey-declines : SurveyDeclines
+  pub move-number : MoveNumber
   pub move-accepts : MoveAccepts
-  pub move-in-order : MoveTestsInOrder
   pub move-declines : MoveDeclines
+  pub run-number : RunNumber
   pub run-accepts : RunAccepts
-  pub run-in-order : RunTestsInOrder
   pub run-declines : RunDeclines
 
 -- ---- demand 2
 
 -- What stands in the answer memory after Found, where `last` is the last configuration: its first bytes, one per gate, are 'inputs in the cone keep their
 -- values, all other inputs are 0, other gates are evaluated', and Mark says yes to them: they obey every gate and show every code. Each code record of the map
--- finds its value there. The surplus stands.
+-- finds its value there. Their input values, in gate order, are a row from which Evaluate makes them. The surplus stands.
 pub record FoundWrites (m last ans after : List ℕ) : Type 0 where
   pub answered : Answered (circuit m) last (take (gateCount m) after)
   pub marked : Satisfies m (take (gateCount m) after)
   pub codes : (r : ℕ) → r < codeCount m → getD after (codeGate m r) 0 ≡ codeValue m r
+  pub row : Row (circuit m) (rowOf (circuit m) after) × (evaluate (circuit m) (rowOf (circuit m) after) ≡ take (gateCount m) after)
   pub surplus : drop (gateCount m) after ≡ drop (gateCount m) ans
   pub long : length after ≡ length ans
 
 -- Of an accepted call.
 --     entries-are           the tape is its entries, four bytes each,
---     entry-is              in that order
+--     entry-is              in that order, with the draws, kinds and options of their bytes
 --     promised              the record and the last configuration are those of document 01's run: `Promised` says what that is, with the configurations
 --                           `config .. 0`, the start, `config .. 1`, after the first entry, and so on
---     told                  an accepted call's number is 0, and its front that of the last configuration: 0 for Found, and "Spent also carries the front's size"
+--     told                  an accepted call's number is 0, it found where the last configuration has no front, and its front is that one's: 0 for Found, and
+--                           "Spent also carries the front's size"
+--     bounds                how large these numbers may become
 --     surveyed              "the first bytes of the work memory, one per gate, are its survey"; the surplus stands
 --     found, not-found      what the answer memory holds
 pub record RunMeans (m s tape work ans : List ℕ) (r : Running) : Type 0 where
   pub accepted : verdict m ≡ 0
   pub start : KeepsCodes (circuit m) s
   pub entries-are : length tape ≡ 4 * length (entries tape)
-  pub entry-is : (d : Entry) (i : ℕ) → 4 * i < length tape → getD (entries tape) i d ≡ entryAt tape (4 * i)
+  pub entry-is : (d : Entry) (i : ℕ) → 4 * i < length tape → EntryRead tape (4 * i) (getD (entries tape) i d)
   pub promised : Promised (circuit m) s (entries tape) (config (circuit m) s (entries tape)) (record { outcome = r .outcome; last = r .configuration })
-  pub told : r .told ≡ record { accepted = true; number = 0; front = frontSize (circuit m) (r .configuration) }
+  pub told : r .told ≡ record { accepted = true; found = isEmpty (front (circuit m) (r .configuration)); number = 0; front = frontSize (circuit m) (r .configuration) }
+  pub bounds : (r .outcome .moves ≤ 16383) × ((r .outcome .flips ≤ 8 * r .outcome .moves) × (r .told .front ≤ 1024))
   pub surveyed : take (gateCount m) (r .work) ≡ survey (circuit m) (r .configuration)
   pub work-surplus : drop (gateCount m) (r .work) ≡ drop (gateCount m) work
   pub work-long : length (r .work) ≡ length work
@@ -164,6 +171,9 @@ pub record Demand3From (m s : List ℕ) : Type 0 where
   pub bounded : (a : List ℕ) → Satisfies m a → (ds : List ℕ) → AreDraws ds → length ds ≡ differ (circuit m) s a
       → Finishing m s ds (differ (circuit m) s a)
 
--- "From every start that keeps an accepted map's codes". What a satisfying assignment is says `MarkSays` of state, and what is counted `DifferIs` of circuit.
-abbrev pub Demand3 : Type 0
-Demand3 = (m s : List ℕ) → verdict m ≡ 0 → KeepsCodes (circuit m) s → Demand3From m s
+-- "From every start that keeps an accepted map's codes". Which maps are accepted, what a satisfying assignment is and what is counted stand beside it.
+pub record Demand3 : Type 0 where
+  pub maps : MapAccepts
+  pub satisfying : MarkSays
+  pub counted : DifferIs
+  pub from : (m s : List ℕ) → verdict m ≡ 0 → KeepsCodes (circuit m) s → Demand3From m s

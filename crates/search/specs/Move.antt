@@ -3,7 +3,7 @@ use Prim.Native.Nat.{ℕ, _≤_}
 use mathlib.Core.Path.{_≡_}
 use mathlib.Core.Logic.{_↔_}
 use mathlib.Core.Bool.{Bool, true, false, cond, not}
-use mathlib.Core.List.{List, [], _∷_, _++_, map}
+use mathlib.Core.List.{List, [], _∷_, _++_}
 use lib.ListN.{length, getD, take, drop}
 use lib.Dec.{eqb, leb}
 use Rattle.circuit.specs.Tools.{isEmpty}
@@ -13,12 +13,12 @@ use Rattle.circuit.specs.Run.{turned, move}
 use Rattle.circuit.specs.Source001.{Front, Turned}
 use Rattle.circuit.specs.Promise.{NoFront, EntryDone}
 use Rattle.map.specs.Map.{gateCount, circuit}
-use Rattle.map.specs.Check.{firstFailed, mapTests, verdict}
+use Rattle.map.specs.Check.{firstFailed, mapTests, verdict, Test, MapNumber}
 use Rattle.state.specs.State.{over}
-use Rattle.survey.specs.Survey.{startTests}
+use Rattle.survey.specs.Survey.{startTests, StartNumber}
 use Rattle.search.specs.declared.Moved.{Moved}
 use Rattle.search.specs.declared.Moved.the-variants.{Done, Refused}
-use Rattle.search.specs.Tape.{entryAt, kindsTest}
+use Rattle.search.specs.Tape.{entryAt, EntryRead, kindsTest}
 
 -- ---- the tests
 
@@ -78,6 +78,7 @@ moving m s entry work = movingBy (firstFailed (mapTests m ++ moveTests m s entry
 pub record MoveMeans (m s entry work : List ℕ) (r : Moving) : Type 0 where
   pub accepted : verdict m ≡ 0
   pub start : KeepsCodes (circuit m) s
+  pub read : EntryRead entry 0 (entryAt entry 0)
   pub does : EntryDone (circuit m) s (entryAt entry 0)
   pub number : r .number ≡ 0
   pub gate : (r .gate ≡ move (circuit m) s (entryAt entry 0) .gate) × Front (circuit m) s (r .gate)
@@ -104,21 +105,28 @@ pub record Movable (m s entry work : List ℕ) : Type 0 where
 abbrev pub MoveAccepts : Type 0
 MoveAccepts = (m s entry work : List ℕ) → (moving m s entry work .accepted ≡ true) ↔ Movable m s entry work
 
--- Its tests are those of numbers 1 to 15, in this order.
-abbrev pub MoveTestsInOrder : Type 0
-MoveTestsInOrder =
-    (m s entry work : List ℕ)
-    → map (λ (t : ℕ × Bool). t .0) (mapTests m ++ moveTests m s entry work) ≡ 1 ∷ 2 ∷ 3 ∷ 4 ∷ 5 ∷ 6 ∷ 7 ∷ 8 ∷ 9 ∷ 10 ∷ 11 ∷ 12 ∷ 13 ∷ 14 ∷ 15 ∷ []
+-- Its number: 12 to 15 behind those of the map and of a start
+abbrev pub EntryNumber : ℕ → List ℕ → List ℕ → List ℕ → List ℕ → Type 0
+EntryNumber n m s entry work =
+    Test n 12 (length entry ≡ 4) (
+    Test n 13 (getD entry 2 0 ≤ 2) (
+    Test n 14 (gateCount m ≤ length work) (
+    Test n 15 (¬ NoFront (circuit m) s) (n ≡ 0))))
 
--- Declined, it gives the number of the first that fails, "leaves all lent memory untouched; the other numbers of its answer .. are then 0".
-pub record MoveDeclined (s work : List ℕ) (n : ℕ) (r : Moving) : Type 0 where
-  pub numbered : (¬ (n ≡ 0)) × (r .number ≡ n)
+abbrev pub MoveNumber : Type 0
+MoveNumber = (m s entry work : List ℕ)
+    → MapNumber (moving m s entry work .number) m (
+    StartNumber (moving m s entry work .number) m s (
+    EntryNumber (moving m s entry work .number) m s entry work))
+
+-- Declined, it gives a number, "leaves all lent memory untouched; the other numbers of its answer .. are then 0".
+pub record MoveDeclined (s work : List ℕ) (r : Moving) : Type 0 where
+  pub numbered : ¬ (r .number ≡ 0)
   pub zeros : (r .gate ≡ 0) × (r .turned ≡ 0)
   pub untouched : (r .configuration ≡ s) × (r .work ≡ work)
 
 abbrev pub MoveDeclines : Type 0
-MoveDeclines = (m s entry work : List ℕ) → moving m s entry work .accepted ≡ false
-    → MoveDeclined s work (firstFailed (mapTests m ++ moveTests m s entry work)) (moving m s entry work)
+MoveDeclines = (m s entry work : List ℕ) → moving m s entry work .accepted ≡ false → MoveDeclined s work (moving m s entry work)
 
 -- ---- for inner functions
 

@@ -3,7 +3,7 @@ use Prim.Native.Nat.{ℕ, _+_, _*_, _%_, _<_, _≤_}
 use mathlib.Core.Path.{_≡_}
 use mathlib.Core.Logic.{_↔_}
 use mathlib.Core.Bool.{Bool, true, false, cond}
-use mathlib.Core.List.{List, [], _∷_, _++_, map}
+use mathlib.Core.List.{List, [], _∷_, _++_}
 use lib.ListN.{length, getD}
 use lib.Dec.{eqb, leb}
 use Rattle.folds.specs.Folds.{_and_}
@@ -15,9 +15,9 @@ use Rattle.circuit.specs.Evaluate.{KeepsCodes}
 use Rattle.circuit.specs.Survey.{survey}
 use Rattle.circuit.specs.Run.{Ended, run, answer}
 use Rattle.map.specs.Map.{gateCount, circuit}
-use Rattle.map.specs.Check.{firstFailed, mapTests, verdict}
+use Rattle.map.specs.Check.{firstFailed, mapTests, verdict, Test, MapNumber}
 use Rattle.state.specs.State.{over}
-use Rattle.survey.specs.Survey.{startTests}
+use Rattle.survey.specs.Survey.{startTests, StartNumber}
 use Rattle.search.specs.Tape.{entries, tapeTest, kindsTest}
 
 -- ---- the tests
@@ -32,17 +32,18 @@ runTests m s tape work ans = startTests m s ++ tapeTests m tape work ans
 
 -- ---- Run
 
--- document 01's number and values of each case of an ending: whether the call is accepted, the number that declines it, and the front's size that Spent
--- carries
+-- document 01's number and values of each case of an ending: whether the call is accepted, whether it found, the number that declines it, and the front's
+-- size that Spent carries
 pub record Told : Type 0 where
   pub accepted : Bool
+  pub found : Bool
   pub number : ℕ
   pub front : ℕ
 
 abbrev pub told : Ending → Told
-told Found = record { accepted = true; number = 0; front = 0 }
-told (Spent f) = record { accepted = true; number = 0; front = f }
-told (Refused n) = record { accepted = false; number = n; front = 0 }
+told Found = record { accepted = true; found = true; number = 0; front = 0 }
+told (Spent f) = record { accepted = true; found = false; number = 0; front = f }
+told (Refused n) = record { accepted = false; found = false; number = n; front = 0 }
 
 -- "A run's answer is one record: its ending, its moves and its flips", what the ending tells, and the three lent memories after the call
 pub record Running : Type 0 where
@@ -99,21 +100,27 @@ pub record Runnable (m s tape work ans : List ℕ) : Type 0 where
 abbrev pub RunAccepts : Type 0
 RunAccepts = (m s tape work ans : List ℕ) → (running m s tape work ans .told .accepted ≡ true) ↔ Runnable m s tape work ans
 
--- Its tests are those of numbers 1 to 14, in this order.
-abbrev pub RunTestsInOrder : Type 0
-RunTestsInOrder =
-    (m s tape work ans : List ℕ)
-    → map (λ (t : ℕ × Bool). t .0) (mapTests m ++ runTests m s tape work ans) ≡ 1 ∷ 2 ∷ 3 ∷ 4 ∷ 5 ∷ 6 ∷ 7 ∷ 8 ∷ 9 ∷ 10 ∷ 11 ∷ 12 ∷ 13 ∷ 14 ∷ []
+-- Its number: 12 to 14 behind those of the map and of a start
+abbrev pub TapeNumber : ℕ → List ℕ → List ℕ → List ℕ → List ℕ → Type 0
+TapeNumber n m tape work ans =
+    Test n 12 ((length tape % 4 ≡ 0) × (length tape ≤ 65532)) (
+    Test n 13 ((i : ℕ) → 4 * i < length tape → getD tape (4 * i + 2) 0 ≤ 2) (
+    Test n 14 (Room m work ans) (n ≡ 0)))
 
--- Declined, it gives the number of the first that fails, "leaves all lent memory untouched; the other numbers of its answer .. are then 0".
-pub record RunDeclined (s work ans : List ℕ) (n : ℕ) (r : Running) : Type 0 where
-  pub numbered : (¬ (n ≡ 0)) × (r .told .number ≡ n)
+abbrev pub RunNumber : Type 0
+RunNumber = (m s tape work ans : List ℕ)
+    → MapNumber (running m s tape work ans .told .number) m (
+    StartNumber (running m s tape work ans .told .number) m s (
+    TapeNumber (running m s tape work ans .told .number) m tape work ans))
+
+-- Declined, it gives a number, "leaves all lent memory untouched; the other numbers of its answer .. are then 0".
+pub record RunDeclined (s work ans : List ℕ) (r : Running) : Type 0 where
+  pub numbered : ¬ (r .told .number ≡ 0)
   pub zeros : (r .outcome .moves ≡ 0) × ((r .outcome .flips ≡ 0) × (r .told .front ≡ 0))
   pub untouched : (r .configuration ≡ s) × ((r .work ≡ work) × (r .answer ≡ ans))
 
 abbrev pub RunDeclines : Type 0
-RunDeclines = (m s tape work ans : List ℕ) → running m s tape work ans .told .accepted ≡ false
-    → RunDeclined s work ans (firstFailed (mapTests m ++ runTests m s tape work ans)) (running m s tape work ans)
+RunDeclines = (m s tape work ans : List ℕ) → running m s tape work ans .told .accepted ≡ false → RunDeclined s work ans (running m s tape work ans)
 
 -- ---- for inner functions
 

@@ -1,5 +1,6 @@
 -- Document 01's tape, and the tests 12 and 13. Assumes nothing.
 use Prim.Native.Nat.{ℕ, zero, suc, _+_, _*_, _/_, _%_}
+use mathlib.Core.Path.{_≡_}
 use mathlib.Core.Bool.{Bool, cond}
 use mathlib.Core.List.{List, [], _∷_}
 use lib.ListN.{length, getD}
@@ -21,6 +22,16 @@ choiceOf (suc (suc k)) i = Up i
 -- "A tape entry is 4 bytes: draw (u16), kind (0 greedy, 1 down, 2 up), option.": the entry at a place
 unfoldable pub entryAt : List ℕ → ℕ → Entry
 entryAt t at = record { draw = u16At t at; choice = choiceOf (getD t (at + 2) 0) (getD t (at + 3) 0) }
+
+-- the same without functions: what the four bytes at a place say, where the kind is up to 2
+abbrev pub Says : Choice → ℕ → ℕ → Type 0
+Says (Greedy o) kind option = (kind ≡ 0) × (o ≡ option)
+Says (Down o) kind option = (kind ≡ 1) × (o ≡ option)
+Says (Up o) kind option = (kind ≡ 2) × (o ≡ option)
+
+pub record EntryRead (t : List ℕ) (at : ℕ) (e : Entry) : Type 0 where
+  pub draw : e .draw ≡ getD t at 0 + 256 * getD t (at + 1) 0
+  pub choice : Says (e .choice) (getD t (at + 2) 0) (getD t (at + 3) 0)
 
 -- "A tape goes through the engine entry by entry, the place reached moving on by four.": n entries from a place on, and all
 unfoldable pub entriesFrom : List ℕ → ℕ → ℕ → List Entry

@@ -27,7 +27,7 @@ module _ (m s : List ℕ) (k : IsMap m) (b : Bits s) where
   record-shown : (r : ℕ) → r < codeCount m → showsCode (codeAmong m (codeCount m) (codeGate m r)) (on s (codeGate m r)) ≡ true
       → eqb (getD s (codeGate m r) 0) (codeValue m r) ≡ true
   record-shown r l e =
-      let q = shows-code (codeAmong m (codeCount m) (codeGate m r)) (on s (codeGate m r)) .0 e (eqb (codeValue m r) 1) (code-found m k (codeCount m) r l (omega arith)) in
+      let q = shows-code (codeAmong m (codeCount m) (codeGate m r)) (on s (codeGate m r)) .0 e (eqb (codeValue m r) 1) (code-found m (k .codes-ascend) (codeCount m) r l (omega arith)) in
       eq-eqb _ _ (bit-same _ _ (b (codeGate m r)) (k .code-values r l) q)
 
   shown-record : (g : ℕ) → shownByRecord m s ≡ true → showsCode (codeAmong m (codeCount m) g) (on s g) ≡ true

@@ -3,7 +3,7 @@ use Prim.Native.Nat.{ℕ, _≤_}
 use mathlib.Core.Path.{_≡_, refl, sym, _∙_}
 use mathlib.Core.Bool.{Bool, true, false≢true, true≢false}
 use mathlib.Core.Logic.{inl, inr}
-use mathlib.Core.List.{List, _++_}
+use mathlib.Core.List.{List, [], _++_}
 use lib.Dec.{eqb, leb}
 use lib.ListN.{length, getD}
 use borrow.Author.Tests.{eqb-true, eqb-false, eq-eqb, leb-true, le-leb}
@@ -13,11 +13,12 @@ use Rattle.circuit.specs.Circuit.{Configuration}
 use Rattle.circuit.specs.Evaluate.{inputsBefore, Row, evaluate, mark}
 use Rattle.circuit.proofs.Evaluate.{evaluate-is, mark-is}
 use Rattle.map.specs.Map.{gateCount, circuit}
-use Rattle.map.specs.Check.{firstFailed, contentsTests, bodiesTests, mapTests, verdict}
+use Rattle.map.specs.Check.{firstFailed, mapTests, verdict}
 use Rattle.map.proofs.Laws.{none-failed, past, no-test, passed-before}
 use Rattle.map.proofs.Accepted.{facts, well-formed}
 use Rattle.map.proofs.Answers.{behind-accepted}
-use Rattle.state.specs.State.{bitsTest, rowTests, configurationTests, over, evaluationBy, evaluation, EvaluateWrites, EvaluateAccepts, EvaluateTestsInOrder, EvaluateDeclines, markingBy, marking, MarkSays, MarkAccepts, MarkTestsInOrder, MarkDeclines}
+use Rattle.map.proofs.Described.{tested, map-number}
+use Rattle.state.specs.State.{Bits, bitsTest, rowTests, configurationTests, over, evaluationBy, evaluation, EvaluateWrites, EvaluateAccepts, EvaluateNumber, EvaluateDeclines, markingBy, marking, MarkSays, MarkAccepts, ConfigurationNumber, MarkNumber, MarkDeclines}
 use Rattle.state.proofs.Filling.{bits-of}
 use Rattle.state.proofs.Over.{over-first, over-rest, over-long}
 
@@ -27,7 +28,7 @@ pub behind : (m : List ℕ) (b : List (ℕ × Bool)) → firstFailed (mapTests m
 unfolding verdict
 behind m b e = (let v = passed-before (mapTests m) b e in (v, sym (behind-accepted m b v) ∙ e))
 
-of-bits : (s : List ℕ) → ((i : ℕ) → getD s i 0 ≤ 1) → bitsTest s ≡ true
+of-bits : (s : List ℕ) → Bits s → bitsTest s ≡ true
 unfolding bitsTest
 of-bits s k = all-of (λ i. leb (getD s i 0) 1) (length s) (λ i h. le-leb _ _ (k i))
 
@@ -51,6 +52,13 @@ module _ (m row out : List ℕ) where
   written : row-number ≡ 0 → evaluation m row out .out ≡ over (evaluate (circuit m) row) out
   unfolding evaluation evaluationBy
   written e = rw (eq-eqb row-number 0 e)
+
+  row-number-is : evaluation m row out .number ≡ row-number
+  unfolding evaluation evaluationBy
+  row-number-is = elim (which (eqb row-number 0)) [
+    | inl q ↦ rw q (sym (eqb-true row-number 0 q))
+    | inr q ↦ rw q refl
+  ]
 
   row-of : firstFailed (rowTests m row out) ≡ 0 → Row (circuit m) row × (gateCount m ≤ length out)
   unfolding rowTests inputsBefore
@@ -84,15 +92,21 @@ evaluate-accepts m row out = (
   λ a. accepted m row out (behind-accepted m _ (a .0) ∙ of-row m row out (a .1 .0) (a .1 .1)),
 )
 
-pub evaluate-tests-in-order : EvaluateTestsInOrder
-unfolding mapTests contentsTests bodiesTests rowTests
-evaluate-tests-in-order m row out = refl
+pub evaluate-number : EvaluateNumber
+unfolding rowTests
+evaluate-number m row out =
+    let n = evaluation m row out .number in
+    map-number m _ n _ (row-number-is m row out) λ v e.
+    tested 9 _ _ n _ _ e (eqb-true _ _) (eq-eqb _ _) λ q9 e9.
+    tested 10 _ _ n _ _ e9 (bits-of row) (of-bits row) λ q10 e10.
+    tested 14 _ _ n _ _ e10 (leb-true _ _) (le-leb _ _) λ q14 e14.
+    e14 ∙ no-test
 
 pub evaluate-declines : EvaluateDeclines
 unfolding evaluation evaluationBy
 evaluate-declines m row out e = elim (which (eqb (row-number m row out) 0)) [
   | inl q ↦ absurd (true≢false (rw q at e))
-  | inr q ↦ rw q (record { numbered = (eqb-false (row-number m row out) 0 q, refl); untouched = refl })
+  | inr q ↦ rw q (record { numbered = eqb-false (row-number m row out) 0 q; untouched = refl })
 ]
 
 -- ---- Mark
@@ -135,13 +149,31 @@ mark-accepts m s = (
   λ a. rw (eq-eqb _ 0 (behind-accepted m _ (a .0) ∙ of-configuration m s (a .1))),
 )
 
-pub mark-tests-in-order : MarkTestsInOrder
-unfolding mapTests contentsTests bodiesTests configurationTests
-mark-tests-in-order m s = refl
+mark-number-is : (m s : List ℕ) → marking m s .number ≡ firstFailed (mapTests m ++ configurationTests m s)
+unfolding marking markingBy
+mark-number-is m s = elim (which (eqb (firstFailed (mapTests m ++ configurationTests m s)) 0)) [
+  | inl q ↦ rw q (sym (eqb-true _ 0 q))
+  | inr q ↦ rw q refl
+]
+
+-- tests 9 and 10 of a configuration, and what comes behind them
+pub configuration-number : (m s : List ℕ) (ts : List (ℕ × Bool)) (n : ℕ) (Rest : Type 0) → n ≡ firstFailed (configurationTests m s ++ ts)
+    → (Configuration (circuit m) s → n ≡ firstFailed ts → Rest) → ConfigurationNumber n m s Rest
+unfolding configurationTests
+configuration-number m s ts n Rest e rest =
+    tested 9 _ _ n _ _ e (eqb-true _ _) (eq-eqb _ _) λ q9 e9.
+    tested 10 _ ts n _ Rest e9 (bits-of s) (of-bits s) λ q10 e10.
+    rest (record { long = eqb-true _ _ q9; bits = bits-of s q10 }) e10
+
+pub mark-number : MarkNumber
+unfolding configurationTests
+mark-number m s =
+    let n = marking m s .number in
+    map-number m _ n _ (mark-number-is m s) λ v e. configuration-number m s [] n (n ≡ 0) e (λ k f. f ∙ no-test)
 
 pub mark-declines : MarkDeclines
 unfolding marking markingBy
 mark-declines m s e = elim (which (eqb (firstFailed (mapTests m ++ configurationTests m s)) 0)) [
   | inl q ↦ absurd (true≢false (rw q at e))
-  | inr q ↦ rw q (record { numbered = (eqb-false _ 0 q, refl); no = refl })
+  | inr q ↦ rw q (record { numbered = eqb-false _ 0 q; not-yes = refl })
 ]

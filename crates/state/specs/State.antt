@@ -3,14 +3,14 @@ use Prim.Native.Nat.{ℕ, _≤_}
 use mathlib.Core.Path.{_≡_}
 use mathlib.Core.Logic.{_↔_}
 use mathlib.Core.Bool.{Bool, true, false, cond}
-use mathlib.Core.List.{List, [], _∷_, _++_, map}
+use mathlib.Core.List.{List, [], _∷_, _++_}
 use lib.ListN.{length, getD, take, drop}
 use lib.Dec.{eqb, leb}
 use Rattle.folds.specs.Folds.{allBelow}
 use Rattle.circuit.specs.Circuit.{Configuration}
 use Rattle.circuit.specs.Evaluate.{Row, evaluate, mark, Evaluated, Satisfying}
 use Rattle.map.specs.Map.{gateCount, codeCount, codeGate, codeValue, circuit, inputCount}
-use Rattle.map.specs.Check.{firstFailed, mapTests, verdict}
+use Rattle.map.specs.Check.{firstFailed, mapTests, verdict, Test, MapNumber}
 use Rattle.state.specs.declared.Written.{Written}
 use Rattle.state.specs.declared.Written.the-variants.{Done}
 use Rattle.state.specs.declared.Written.the-variants as written-variants
@@ -19,6 +19,10 @@ use Rattle.state.specs.declared.Marked.the-variants.{Yes, No}
 use Rattle.state.specs.declared.Marked.the-variants as marked-variants
 
 -- ---- the tests
+
+-- every byte is 0 or 1
+abbrev pub Bits : List ℕ → Type 0
+Bits s = (i : ℕ) → getD s i 0 ≤ 1
 
 -- "10. It has a byte above 1.": true where it has none
 unfoldable pub bitsTest : List ℕ → Bool
@@ -112,32 +116,38 @@ EvaluateAccepts =
 abbrev pub MarkAccepts : Type 0
 MarkAccepts = (m s : List ℕ) → (marking m s .accepted ≡ true) ↔ ((verdict m ≡ 0) × Configuration (circuit m) s)
 
--- Their tests are those of these numbers, in this order.
-abbrev pub EvaluateTestsInOrder : Type 0
-EvaluateTestsInOrder =
-    (m row out : List ℕ)
-    → map (λ (t : ℕ × Bool). t .0) (mapTests m ++ rowTests m row out) ≡ 1 ∷ 2 ∷ 3 ∷ 4 ∷ 5 ∷ 6 ∷ 7 ∷ 8 ∷ 9 ∷ 10 ∷ 14 ∷ []
+-- Their numbers: 9, 10 and 14 behind the map's, and 9 and 10
+abbrev pub RowNumber : ℕ → List ℕ → List ℕ → List ℕ → Type 0
+RowNumber n m row out =
+    Test n 9 (length row ≡ inputCount m) (
+    Test n 10 (Bits row) (
+    Test n 14 (gateCount m ≤ length out) (n ≡ 0)))
 
-abbrev pub MarkTestsInOrder : Type 0
-MarkTestsInOrder =
-    (m s : List ℕ)
-    → map (λ (t : ℕ × Bool). t .0) (mapTests m ++ configurationTests m s) ≡ 1 ∷ 2 ∷ 3 ∷ 4 ∷ 5 ∷ 6 ∷ 7 ∷ 8 ∷ 9 ∷ 10 ∷ []
+abbrev pub EvaluateNumber : Type 0
+EvaluateNumber = (m row out : List ℕ) → MapNumber (evaluation m row out .number) m (RowNumber (evaluation m row out .number) m row out)
 
--- Declined, they give the number of the first that fails, Evaluate "leaves all lent memory untouched", and Mark's answer is no.
-pub record EvaluateDeclined (out : List ℕ) (n : ℕ) (r : Evaluation) : Type 0 where
-  pub numbered : (¬ (n ≡ 0)) × (r .number ≡ n)
+abbrev pub ConfigurationNumber : ℕ → List ℕ → List ℕ → Type 0 → Type 0
+ConfigurationNumber n m s Rest =
+    Test n 9 (length s ≡ gateCount m) (
+    Test n 10 (Bits s) Rest)
+
+abbrev pub MarkNumber : Type 0
+MarkNumber = (m s : List ℕ) → MapNumber (marking m s .number) m (ConfigurationNumber (marking m s .number) m s (marking m s .number ≡ 0))
+
+-- Declined, they give a number, Evaluate "leaves all lent memory untouched", and Mark doesn't say yes.
+pub record EvaluateDeclined (out : List ℕ) (r : Evaluation) : Type 0 where
+  pub numbered : ¬ (r .number ≡ 0)
   pub untouched : r .out ≡ out
 
 abbrev pub EvaluateDeclines : Type 0
-EvaluateDeclines = (m row out : List ℕ) → evaluation m row out .accepted ≡ false
-    → EvaluateDeclined out (firstFailed (mapTests m ++ rowTests m row out)) (evaluation m row out)
+EvaluateDeclines = (m row out : List ℕ) → evaluation m row out .accepted ≡ false → EvaluateDeclined out (evaluation m row out)
 
-pub record MarkDeclined (n : ℕ) (r : Marking) : Type 0 where
-  pub numbered : (¬ (n ≡ 0)) × (r .number ≡ n)
-  pub no : r .yes ≡ false
+pub record MarkDeclined (r : Marking) : Type 0 where
+  pub numbered : ¬ (r .number ≡ 0)
+  pub not-yes : r .yes ≡ false
 
 abbrev pub MarkDeclines : Type 0
-MarkDeclines = (m s : List ℕ) → marking m s .accepted ≡ false → MarkDeclined (firstFailed (mapTests m ++ configurationTests m s)) (marking m s)
+MarkDeclines = (m s : List ℕ) → marking m s .accepted ≡ false → MarkDeclined (marking m s)
 
 -- ---- for inner functions
 
@@ -151,7 +161,3 @@ configurationMarking m s = markingBy (firstFailed (configurationTests m s)) m s
 -- every coded gate has its code, record by record
 unfoldable pub shownByRecord : List ℕ → List ℕ → Bool
 shownByRecord m s = allBelow (codeCount m) (λ r. eqb (getD s (codeGate m r) 0) (codeValue m r))
-
--- every byte is 0 or 1
-abbrev pub Bits : List ℕ → Type 0
-Bits s = (i : ℕ) → getD s i 0 ≤ 1

@@ -12,15 +12,16 @@ use Rattle.folds.proofs.Tests.{which}
 use Rattle.circuit.specs.Survey.{survey, frontSize, interestSize}
 use Rattle.circuit.proofs.Survey.{survey-is}
 use Rattle.map.specs.Map.{gateCount, circuit}
-use Rattle.map.specs.Check.{firstFailed, contentsTests, bodiesTests, mapTests}
+use Rattle.map.specs.Check.{firstFailed, mapTests}
 use Rattle.map.proofs.Laws.{past, no-test, none-failed, passed-before}
 use Rattle.map.proofs.Accepted.{facts, well-formed}
 use Rattle.map.proofs.Answers.{behind-accepted}
-use Rattle.state.specs.State.{configurationTests, over}
+use Rattle.map.proofs.Described.{tested, map-number}
+use Rattle.state.specs.State.{over}
 use Rattle.state.proofs.Over.{over-rest, over-long}
 use Rattle.state.proofs.Meaning.{behind}
-use Rattle.survey.specs.Survey.{startTests, surveyTests, surveyingBy, surveying, SurveyWrites, SurveyAccepts, SurveyTestsInOrder, SurveyDeclines}
-use Rattle.survey.proofs.Starts.{behind-start, start-of, of-start}
+use Rattle.survey.specs.Survey.{startTests, surveyTests, surveyingBy, surveying, SurveyWrites, SurveyAccepts, SurveyNumber, SurveyDeclines}
+use Rattle.survey.proofs.Starts.{behind-start, start-of, of-start, start-number}
 
 module _ (m s out : List ℕ) where
   abbrev number : ℕ
@@ -31,6 +32,13 @@ module _ (m s out : List ℕ) where
   none e = elim (which (eqb number 0)) [
     | inl q ↦ eqb-true number 0 q
     | inr q ↦ absurd (false≢true (rw q at e))
+  ]
+
+  number-is : surveying m s out .number ≡ number
+  unfolding surveying surveyingBy
+  number-is = elim (which (eqb number 0)) [
+    | inl q ↦ rw q (sym (eqb-true number 0 q))
+    | inr q ↦ rw q refl
   ]
 
   accepted : number ≡ 0 → surveying m s out .accepted ≡ true
@@ -83,13 +91,18 @@ survey-accepts m s out = (
   λ a. accepted m s out (behind-accepted m _ (a .0) ∙ of-room m s out (of-start m s (a .1 .0)) (le-leb (gateCount m) (length out) (a .1 .1))),
 )
 
-pub survey-tests-in-order : SurveyTestsInOrder
-unfolding mapTests contentsTests bodiesTests surveyTests startTests configurationTests
-survey-tests-in-order m s out = refl
+pub survey-number : SurveyNumber
+unfolding surveyTests
+survey-number m s out =
+    let n = surveying m s out .number in
+    map-number m _ n _ (number-is m s out) λ v e.
+    start-number m s _ n _ (facts m v) e λ e11.
+    tested 14 _ _ n _ _ e11 (leb-true _ _) (le-leb _ _) λ q14 e14.
+    e14 ∙ no-test
 
 pub survey-declines : SurveyDeclines
 unfolding surveying surveyingBy
 survey-declines m s out e = elim (which (eqb (number m s out) 0)) [
   | inl q ↦ absurd (true≢false (rw q at e))
-  | inr q ↦ rw q (record { numbered = (eqb-false (number m s out) 0 q, refl); zeros = (refl, refl); untouched = refl })
+  | inr q ↦ rw q (record { numbered = eqb-false (number m s out) 0 q; zeros = (refl, refl); untouched = refl })
 ]

@@ -3,7 +3,7 @@ use Prim.Native.Nat.{ℕ, _+_, _*_, _<_, _≤_}
 use mathlib.Core.Path.{_≡_}
 use mathlib.Core.Logic.{_↔_}
 use mathlib.Core.Bool.{Bool, true, false, cond}
-use mathlib.Core.List.{List, [], _∷_, _++_, map}
+use mathlib.Core.List.{List, [], _∷_, _++_}
 use lib.ListN.{length, getD, drop}
 use lib.Dec.{eqb, leb}
 use Rattle.folds.specs.Folds.{allBelow}
@@ -12,9 +12,9 @@ use Rattle.circuit.specs.Circuit.{on}
 use Rattle.circuit.specs.Evaluate.{showsCode, KeepsCodes}
 use Rattle.circuit.specs.Survey.{survey, frontSize, interestSize}
 use Rattle.circuit.specs.Source001.{Cone, Front, Interesting, Size}
-use Rattle.map.specs.Map.{gateCount, circuit}
-use Rattle.map.specs.Check.{firstFailed, mapTests, verdict}
-use Rattle.state.specs.State.{configurationTests, over}
+use Rattle.map.specs.Map.{gateCount, codeCount, codeGate, codeValue, circuit}
+use Rattle.map.specs.Check.{firstFailed, mapTests, verdict, Test, MapNumber}
+use Rattle.state.specs.State.{configurationTests, ConfigurationNumber, over}
 use Rattle.survey.specs.declared.Surveyed.{Surveyed}
 use Rattle.survey.specs.declared.Surveyed.the-variants.{Done, Refused}
 
@@ -89,21 +89,25 @@ abbrev pub SurveyAccepts : Type 0
 SurveyAccepts =
     (m s out : List ℕ) → (surveying m s out .accepted ≡ true) ↔ ((verdict m ≡ 0) × (KeepsCodes (circuit m) s × (gateCount m ≤ length out)))
 
--- Its tests are those of these numbers, in this order.
-abbrev pub SurveyTestsInOrder : Type 0
-SurveyTestsInOrder =
-    (m s out : List ℕ)
-    → map (λ (t : ℕ × Bool). t .0) (mapTests m ++ surveyTests m s out) ≡ 1 ∷ 2 ∷ 3 ∷ 4 ∷ 5 ∷ 6 ∷ 7 ∷ 8 ∷ 9 ∷ 10 ∷ 11 ∷ 14 ∷ []
+-- Its number: those of a start, 9 to 11, behind the map's, and 14
+abbrev pub StartNumber : ℕ → List ℕ → List ℕ → Type 0 → Type 0
+StartNumber n m s Rest =
+    ConfigurationNumber n m s (
+    Test n 11 ((r : ℕ) → r < codeCount m → getD s (codeGate m r) 0 ≡ codeValue m r) Rest)
 
--- Declined, it gives the number of the first that fails, "leaves all lent memory untouched; the other numbers of its answer .. are then 0".
-pub record SurveyDeclined (out : List ℕ) (n : ℕ) (r : Surveying) : Type 0 where
-  pub numbered : (¬ (n ≡ 0)) × (r .number ≡ n)
+abbrev pub SurveyNumber : Type 0
+SurveyNumber = (m s out : List ℕ)
+    → MapNumber (surveying m s out .number) m (StartNumber (surveying m s out .number) m s (
+    Test (surveying m s out .number) 14 (gateCount m ≤ length out) (surveying m s out .number ≡ 0)))
+
+-- Declined, it gives a number, "leaves all lent memory untouched; the other numbers of its answer .. are then 0".
+pub record SurveyDeclined (out : List ℕ) (r : Surveying) : Type 0 where
+  pub numbered : ¬ (r .number ≡ 0)
   pub zeros : (r .front ≡ 0) × (r .interest ≡ 0)
   pub untouched : r .out ≡ out
 
 abbrev pub SurveyDeclines : Type 0
-SurveyDeclines = (m s out : List ℕ) → surveying m s out .accepted ≡ false
-    → SurveyDeclined out (firstFailed (mapTests m ++ surveyTests m s out)) (surveying m s out)
+SurveyDeclines = (m s out : List ℕ) → surveying m s out .accepted ≡ false → SurveyDeclined out (surveying m s out)
 
 -- ---- for inner functions
 
