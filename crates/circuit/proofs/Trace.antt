@@ -17,7 +17,7 @@ use Rattle.circuit.specs.Run.{move, Ended, stop, after, run}
 use Rattle.circuit.specs.Promise.{NoFront, EntryDone, config, Promised, Demand2OnCircuits}
 use Rattle.circuit.proofs.Found.{answer-is, answer-satisfies}
 use Rattle.circuit.proofs.Gate.{functions}
-use Rattle.circuit.proofs.Source001.{justified-is, down-options-are, down-options-in-order, options-justify}
+use Rattle.circuit.proofs.Source001.{justified-is, relevant-is, down-options-are, down-options-in-order, options-justify}
 use Rattle.circuit.proofs.Survey.{inputs-in-order, differ-is, survey-is}
 use Rattle.circuit.proofs.Moves.{greedy-options-are, no-front, some-front, entry-done}
 
@@ -130,6 +130,7 @@ pub demand2-on-circuits : Demand2OnCircuits
 demand2-on-circuits = record {
   functions = functions;
   justified = justified-is;
+  relevant = relevant-is;
   surveys = survey-is;
   options = down-options-are;
   order = down-options-in-order;

@@ -16,7 +16,7 @@ use Rattle.circuit.specs.Evaluate.{Obeys, Satisfying, Satisfiable, Keeps
 use Rattle.circuit.specs.Survey.{front, frontSize, interestSize}
 use Rattle.circuit.specs.declared.Entry.{Entry}
 use Rattle.circuit.specs.Run.{downOptions, turn, greedyOptions, turned, move, Ended, run, answer}
-use Rattle.circuit.specs.Source001.{OptionOf, Cone, Front, Turned, Size, Functions, JustifiedIs001, DownOptionsAre001, DownOptionsInOrder, OptionsJustify, InputsInOrder, DifferIs, SurveyIs001}
+use Rattle.circuit.specs.Source001.{OptionOf, Cone, Front, Turned, Size, Functions, JustifiedIs001, RelevantIs001, DownOptionsAre001, DownOptionsInOrder, OptionsJustify, InputsInOrder, DifferIs, SurveyIs001}
 
 abbrev pub NoFront : Circuit → List ℕ → Type 0
 NoFront c s = (g : ℕ) → ¬ Front c s g
@@ -123,6 +123,7 @@ pub record Promised (c : Circuit) (s : List ℕ) (es : List Entry) (t : ℕ → 
 
 -- Demand 2 on circuits.
 --     functions, justified           "NOT, AND, OR and XOR mean what 001 says", and so does justified
+--     relevant                       the parts of subset-minimal justifications (and `SmallestIs` is what a smallest set is)
 --     surveys                        "Cone, front and interest set are those of source document 001, save two differences"
 --     options, order, justify        the down options are 001's, in document 01's order; each justifies its gate, and `turn` turns just its gates
 --     greedy                         what greedy picks from
@@ -133,6 +134,7 @@ pub record Promised (c : Circuit) (s : List ℕ) (es : List Entry) (t : ℕ → 
 pub record Demand2OnCircuits : Type 0 where
   pub functions : Functions
   pub justified : JustifiedIs001
+  pub relevant : RelevantIs001
   pub surveys : SurveyIs001
   pub options : DownOptionsAre001
   pub order : DownOptionsInOrder

@@ -225,7 +225,7 @@ module _ (m s : List ℕ) (v : verdict m ≡ 0) (k : KeepsCodes (circuit m) s) w
       plain = plain;
       bytes = tape-bytes ds ways d plain;
       draws = rw reads (f .draws);
-      run-finds = λ work ans r. rw (runs work ans r) (record { found = f .ends-found; moves = f .moves; flips = f .flips });
+      run-finds = λ work ans r. rw (runs work ans r) (record { found = f .ends-found; told = ap (λ (e : Ending). told e .found) (f .ends-found); moves = f .moves; flips = f .flips });
     }
 
   bounded : (a : List ℕ) → Satisfies m a → (ds : List ℕ) → AreDraws ds → length ds ≡ differ (circuit m) s a → Finishing m s ds (differ (circuit m) s a)
@@ -240,6 +240,7 @@ zeros-are-draws (suc n) = λ d i. elim (cases i) [ inl q ↦ rw q (omega arith) 
 pub demand3 : Demand3
 demand3 = record {
   maps = map-accepts;
+  circuits = accepted-maps;
   satisfying = mark-says;
   counted = differ-is;
   from = λ m s v k. record {

@@ -151,5 +151,5 @@ pub run-declines : RunDeclines
 unfolding running runningBy
 run-declines m s tape work ans e = elim (which (eqb (number m s tape work ans) 0)) [
   | inl q ↦ absurd (true≢false (sym (accepted m s tape work ans (eqb-true (number m s tape work ans) 0 q)) ∙ e))
-  | inr q ↦ rw q (record { numbered = eqb-false (number m s tape work ans) 0 q; zeros = (refl, (refl, refl)); untouched = (refl, (refl, refl)) })
+  | inr q ↦ rw q (record { ending = refl; numbered = eqb-false (number m s tape work ans) 0 q; zeros = (refl, (refl, refl)); untouched = (refl, (refl, refl)) })
 ]

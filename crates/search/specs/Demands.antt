@@ -147,6 +147,7 @@ tapeOf (d ∷ ds) (w ∷ ws) = d % 256 ∷ d / 256 ∷ w .kind ∷ w .option ∷
 -- a run "ends Found and reports at most that number of moves and at most that number of flips"
 pub record FoundWithin (n : ℕ) (r : Running) : Type 0 where
   pub found : r .outcome .ending ≡ Found
+  pub told : r .told .found ≡ true
   pub moves : r .outcome .moves ≤ n
   pub flips : r .outcome .flips ≤ n
 
@@ -171,9 +172,11 @@ pub record Demand3From (m s : List ℕ) : Type 0 where
   pub bounded : (a : List ℕ) → Satisfies m a → (ds : List ℕ) → AreDraws ds → length ds ≡ differ (circuit m) s a
       → Finishing m s ds (differ (circuit m) s a)
 
--- "From every start that keeps an accepted map's codes". Which maps are accepted, what a satisfying assignment is and what is counted stand beside it.
+-- "From every start that keeps an accepted map's codes". Which maps are accepted and what their circuits are, what a satisfying assignment is and what is
+-- counted stand beside it.
 pub record Demand3 : Type 0 where
   pub maps : MapAccepts
+  pub circuits : AcceptedMaps
   pub satisfying : MarkSays
   pub counted : DifferIs
   pub from : (m s : List ℕ) → verdict m ≡ 0 → KeepsCodes (circuit m) s → Demand3From m s

@@ -115,6 +115,7 @@ RunNumber = (m s tape work ans : List ℕ)
 
 -- Declined, it gives a number, "leaves all lent memory untouched; the other numbers of its answer .. are then 0".
 pub record RunDeclined (s work ans : List ℕ) (r : Running) : Type 0 where
+  pub ending : r .outcome .ending ≡ Refused (r .told .number)
   pub numbered : ¬ (r .told .number ≡ 0)
   pub zeros : (r .outcome .moves ≡ 0) × ((r .outcome .flips ≡ 0) × (r .told .front ≡ 0))
   pub untouched : (r .configuration ≡ s) × ((r .work ≡ work) × (r .answer ≡ ans))
