@@ -29,7 +29,6 @@ use Rattle.search.specs.Tape.{entryAt, entriesFrom, entries, tapeTest, s
 use Rattle.map.specs.Map.{circuit}
 use Rattle.state.specs.State.{over}
 use Rattle.search.specs.Run.{Running, answered, declined, ran, runningBy, gave}
-use Rattle.search.specs.declared.tape.Cursor.{Cursor}
 use Rattle.search.specs.declared.tape.Step.{Step}
 use Rattle.search.specs.declared.tape.Step.the-variants.{Next, End}
 use Rattle.survey.proofs.Tables.{length-table}
@@ -141,10 +140,10 @@ pub front-few : (c : Circuit) (s : List ℕ) → frontSize c s ≤ c .gates
 unfolding frontSize front
 front-few c s = omega (arith, select-length (inFront c s) (upTo (c .gates)), length-upTo (c .gates))
 
--- ---- the cursor
+-- ---- reading an entry
 
 module _ (t : List ℕ) (at : ℕ) where
-  pub step-goes : leb (at + 4) (length t) ≡ true → stepAt t at ≡ Next (entryAt t at) (record { at = at + 4 })
+  pub step-goes : leb (at + 4) (length t) ≡ true → stepAt t at ≡ Next (entryAt t at) (at + 4)
   unfolding stepAt
   step-goes q = rw q
 
@@ -153,7 +152,7 @@ module _ (t : List ℕ) (at : ℕ) where
   step-ends q = rw q
 
   -- what a step that goes on has: the entry at the place, and the place four on
-  pub step-has : (e : Entry) (n : Cursor) → Next e n ≡ stepAt t at → (leb (at + 4) (length t) ≡ true) × ((e ≡ entryAt t at) × (n .at ≡ at + 4))
+  pub step-has : (e : Entry) (n : ℕ) → Next e n ≡ stepAt t at → (leb (at + 4) (length t) ≡ true) × ((e ≡ entryAt t at) × (n ≡ at + 4))
   step-has e n q = elim (which (leb (at + 4) (length t))) [
     | inl b ↦ (b, (ap (λ (x : Step). entry-in x e) (q ∙ step-goes b), ap place-in (q ∙ step-goes b)))
     | inr b ↦ absurd (let z : _≡_ {A = ℕ} 1 0 = ap goes-on (q ∙ step-ends b) in omega arith)
@@ -164,7 +163,7 @@ module _ (t : List ℕ) (at : ℕ) where
       entry-in End d = d
 
       place-in : Step → ℕ
-      place-in (Next x m) = m .at
+      place-in (Next x m) = m
       place-in End = 0
 
       goes-on : Step → ℕ

@@ -53,4 +53,4 @@ kindsTest t = allBelow (length t / 4) (λ i. leb (getD t (4 * i + 2) 0) 2)
 
 -- the entry at a place with the place four on, or the end where fewer than four bytes are left
 unfoldable pub stepAt : List ℕ → ℕ → Step
-stepAt t at = cond (leb (at + 4) (length t)) (Next (entryAt t at) (record { at = at + 4 })) End
+stepAt t at = cond (leb (at + 4) (length t)) (Next (entryAt t at) (at + 4)) End

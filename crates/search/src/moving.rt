@@ -2,6 +2,7 @@
 use super::Moved;
 use super::step;
 use super::tape;
+use super::tape::Step;
 use map::decode;
 use survey::cone;
 use survey::start;
@@ -37,7 +38,10 @@ fn move_within(
     if front == 0 {
         return Moved::Refused(15);
     }
-    let e = tape::entry_at(entry, 0);
+    let reached = tape::read(entry, 0);
+    let Step::Next(e, _) = reached else {
+        return Moved::Refused(12);
+    };
     let turn = step::entry(
         map,
         gates,

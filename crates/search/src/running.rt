@@ -2,7 +2,6 @@
 use super::answer;
 use super::step;
 use super::tape;
-use super::tape::Cursor;
 use super::tape::Step;
 use circuit::Ending;
 use circuit::Outcome;
@@ -44,9 +43,9 @@ fn go(
     let mut front = cone::mark(map, gates, children, codes, s, marks);
     let mut moves = 0u16;
     let mut flips = 0u32;
-    let mut cursor = Cursor { at: 0 };
+    let mut at = 0;
     while 0 < front {
-        let reached = cursor.step(tape);
+        let reached = tape::read(tape, at);
         let Step::Next(e, next) = reached else {
             return Outcome {
                 ending: Ending::Spent(front),
@@ -70,7 +69,7 @@ fn go(
         front = step::settle(map, gates, children, codes, s, marks);
         moves += 1;
         flips += turn.turned;
-        cursor = next;
+        at = next;
     }
     Outcome {
         ending: Ending::Found,

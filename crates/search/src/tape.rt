@@ -7,14 +7,15 @@ ghost use Prim.Native.Nat.{_+_, _≤_};
 ghost use lib.ListN.{length};
 ghost use Rattle.search.specs.Tape.{choiceOf, entryAt, stepAt, kindsTest};
 
-// The place reached.
-pub struct Cursor {
+// The tape reader: the lent tape and the place reached.
+pub struct Tape<'a> {
+    pub src: &'a [u8],
     pub at: usize,
 }
 
-// The entry at a cursor with the cursor behind it, or the end of the tape.
+// The entry at a place with the place behind it, or the end of the tape.
 pub enum Step {
-    Next(Entry, Cursor),
+    Next(Entry, usize),
     End,
 }
 
@@ -31,7 +32,7 @@ fn choice_of(kind: u8, option: u8) -> Choice
 }
 
 // The entry at a place.
-pub fn entry_at(tape: &[u8], at: usize) -> Entry
+fn entry_at(tape: &[u8], at: usize) -> Entry
     requires { ⌜ at + 4 ≤ length (now tape) ⌝ }
     ensures { λ r. ⌜ r ≡ entryAt (now (tape .entry)) at ⌝ }
 {
@@ -40,20 +41,38 @@ pub fn entry_at(tape: &[u8], at: usize) -> Entry
     Entry { draw, choice }
 }
 
-impl Cursor {
-    // The place moves on by four.
-    pub fn step(self, tape: &[u8]) -> Step
-        ensures { λ r. ⌜ r ≡ stepAt (now (tape .entry)) (self .at) ⌝ }
-    {
-        let at = self.at;
-        if tape.len() < 4 {
-            return Step::End;
-        }
-        if tape.len() - 4 < at {
-            return Step::End;
-        }
-        Step::Next(entry_at(tape, at), Cursor { at: at + 4 })
+// What stands at a place, on plain parameters. The place moves on by four.
+fn step_at(tape: &[u8], at: usize) -> Step
+    ensures { λ r. ⌜ r ≡ stepAt (now (tape .entry)) at ⌝ }
+{
+    if tape.len() < 4 {
+        return Step::End;
     }
+    if tape.len() - 4 < at {
+        return Step::End;
+    }
+    Step::Next(entry_at(tape, at), at + 4)
+}
+
+// A reader at a place of a tape.
+fn reader<'a>(src: &'a [u8], at: usize) -> Tape<'a>
+    ensures { λ r. ⌜ (r .src ≡ src .entry) × (r .at ≡ at) ⌝ }
+{
+    Tape { src, at }
+}
+
+// What stands at the reader's place.
+fn next<'a>(tape: Tape<'a>) -> Step
+    ensures { λ r. ⌜ r ≡ stepAt (now (tape .entry .src)) (tape .entry .at) ⌝ }
+{
+    step_at(tape.src, tape.at)
+}
+
+// Reads the entry at a place: Run and Move read every entry so.
+pub fn read(tape: &[u8], at: usize) -> Step
+    ensures { λ r. ⌜ r ≡ stepAt (now (tape .entry)) at ⌝ }
+{
+    next(reader(tape, at))
 }
 
 // Test 13.

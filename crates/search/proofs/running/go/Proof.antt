@@ -22,34 +22,34 @@ use Rattle.search.proofs.running.go.Reads as reads
 use Rattle.search.proofs.running.go.Lts as lts
 use Rattle.search.proofs.step.entry.Reads as entry-reads
 use Rattle.search.proofs.step.settle.Reads as settle-reads
-use Rattle.search.proofs.tape.Cursor.step.Reads as step-reads
+use Rattle.search.proofs.tape.read.Reads as read-reads
 use Rattle.survey.proofs.cone.mark.Reads as mark-reads
 
 abbrev Inv-loop : tie.InvT-loop
-Inv-loop map gates children codes tape coded s₀ marks₀ trial₀ scratch₀ front₀ moves₀ flips₀ cursor₀ s marks trial scratch front moves flips cursor = Going (circuit map) s₀ tape (cursor .at) moves flips s × ((marks ≡ coneMarks (circuit map) s) × ((front ≡ frontSize (circuit map) s) × ((length s ≡ length s₀) × ((length trial ≡ length trial₀) × ((length scratch ≡ length scratch₀) × (length marks ≡ length marks₀))))))
+Inv-loop map gates children codes tape coded s₀ marks₀ trial₀ scratch₀ front₀ moves₀ flips₀ at₀ s marks trial scratch front moves flips at = Going (circuit map) s₀ tape at moves flips s × ((marks ≡ coneMarks (circuit map) s) × ((front ≡ frontSize (circuit map) s) × ((length s ≡ length s₀) × ((length trial ≡ length trial₀) × ((length scratch ≡ length scratch₀) × (length marks ≡ length marks₀))))))
 
 abbrev μ-loop : tie.MeasureT-loop
-μ-loop map gates children codes tape coded s₀ marks₀ trial₀ scratch₀ front₀ moves₀ flips₀ cursor₀ s marks trial scratch front moves flips cursor = length tape - cursor .at
+μ-loop map gates children codes tape coded s₀ marks₀ trial₀ scratch₀ front₀ moves₀ flips₀ at₀ s marks trial scratch front moves flips at = length tape - at
 
 -- the tape is used up
-ended : (c : tie.After-enum-told Inv-loop μ-loop) → leb (c .before .before .before .before .loop .cursor .at + 4) (length (now (c .before .before .before .before .before .before .before .before .before .before .before .before .before .before .before .before .before .args .tape))) ≡ false
-ended c = elim (which (leb (c .before .before .before .before .loop .cursor .at + 4) (length (now (c .before .before .before .before .before .before .before .before .before .before .before .before .before .before .before .before .before .args .tape))))) [
-  | inl q ↦ absurd (let z = rw (c .before .before .step .ensures, step-goes _ _ q) at (c .before .match .keys2) in omega arith)
+ended : (c : tie.After-enum-told Inv-loop μ-loop) → leb (c .before .before .before .before .loop .at + 4) (length (now (c .before .before .before .before .before .before .before .before .before .before .before .before .before .before .before .before .before .args .tape))) ≡ false
+ended c = elim (which (leb (c .before .before .before .before .loop .at + 4) (length (now (c .before .before .before .before .before .before .before .before .before .before .before .before .before .before .before .before .before .args .tape))))) [
+  | inl q ↦ absurd (let z = rw (c .before .before .read .ensures, step-goes _ _ q) at (c .before .match .keys2) in omega arith)
   | inr q ↦ q
 ]
 
 -- what the step told: there is an entry, and the place behind it
 stepped : (c : tie.After-reached Inv-loop μ-loop)
-    → (leb (c .before .before .before .before .loop .cursor .at + 4) (length (now (c .before .before .before .before .before .before .before .before .before .before .before .before .before .before .before .before .before .args .tape))) ≡ true)
-    × ((c .reached .given .0 .0 ≡ entryAt (now (c .before .before .before .before .before .before .before .before .before .before .before .before .before .before .before .before .before .args .tape)) (c .before .before .before .before .loop .cursor .at)) × (c .reached .given .0 .1 .0 .at ≡ c .before .before .before .before .loop .cursor .at + 4))
-stepped c = step-has (now (c .before .before .before .before .before .before .before .before .before .before .before .before .before .before .before .before .before .args .tape)) (c .before .before .before .before .loop .cursor .at) _ _ (sym (c .reached .given .1) ∙ c .before .before .step .ensures)
+    → (leb (c .before .before .before .before .loop .at + 4) (length (now (c .before .before .before .before .before .before .before .before .before .before .before .before .before .before .before .before .before .args .tape))) ≡ true)
+    × ((c .reached .given .0 .0 ≡ entryAt (now (c .before .before .before .before .before .before .before .before .before .before .before .before .before .before .before .before .before .args .tape)) (c .before .before .before .before .loop .at)) × (c .reached .given .0 .1 .0 ≡ c .before .before .before .before .loop .at + 4))
+stepped c = step-has (now (c .before .before .before .before .before .before .before .before .before .before .before .before .before .before .before .before .before .args .tape)) (c .before .before .before .before .loop .at) _ _ (sym (c .reached .given .1) ∙ c .before .before .read .ensures)
 
-room : (c : tie.After-reached Inv-loop μ-loop) → c .before .before .before .before .loop .cursor .at + 4 ≤ length (now (c .before .before .before .before .before .before .before .before .before .before .before .before .before .before .before .before .before .args .tape))
+room : (c : tie.After-reached Inv-loop μ-loop) → c .before .before .before .before .loop .at + 4 ≤ length (now (c .before .before .before .before .before .before .before .before .before .before .before .before .before .before .before .before .before .args .tape))
 room c = leb-true _ _ (stepped c .0)
 
 -- the run goes on with it
 goes : (c : tie.After-reached Inv-loop μ-loop)
-    → Going (circuit (now (c .before .before .before .before .before .before .before .before .before .before .before .before .before .before .before .before .before .args .map))) (now (c .before .before .before .before .before .before .before .before .before .before .before .before .before .before .before .before .before .args .s)) (now (c .before .before .before .before .before .before .before .before .before .before .before .before .before .before .before .before .before .args .tape)) (c .reached .given .0 .1 .0 .at) (c .before .before .before .before .loop .moves + 1)
+    → Going (circuit (now (c .before .before .before .before .before .before .before .before .before .before .before .before .before .before .before .before .before .args .map))) (now (c .before .before .before .before .before .before .before .before .before .before .before .before .before .before .before .before .before .args .s)) (now (c .before .before .before .before .before .before .before .before .before .before .before .before .before .before .before .before .before .args .tape)) (c .reached .given .0 .1 .0) (c .before .before .before .before .loop .moves + 1)
     (c .before .before .before .before .loop .flips + move (circuit (now (c .before .before .before .before .before .before .before .before .before .before .before .before .before .before .before .before .before .args .map))) (c .before .before .before .before .loop .s) (c .reached .given .0 .0) .flips)
     (move (circuit (now (c .before .before .before .before .before .before .before .before .before .before .before .before .before .before .before .before .before .args .map))) (c .before .before .before .before .loop .s) (c .reached .given .0 .0) .next)
 goes c = let l = c .before .before .before .before .loop in

@@ -1,0 +1,27 @@
+use denote.Ref.{now}
+use native.Mathlib.Omega.{arith}
+use Prim.Native.Nat.{_+_}
+use lib.ListN.{length}
+use borrow.Author.Tests.{le-leb, lt-leb}
+use Rattle.search.specs.Tape.{stepAt}
+use borrow.Author.Needs.{needs}
+use Rattle.search.proofs.tape.step_at.Statement.{statement}
+use Rattle.search.proofs.tape.step_at.Tie as tie
+use Rattle.search.proofs.tape.step_at.Reads as reads
+use Rattle.search.proofs.tape.step_at.Lts as lts
+use Rattle.search.proofs.tape.entry_at.Reads as entry-at-reads
+
+returns : tie.Need-returns
+unfolding stepAt
+returns c = simp (lt-leb (c .before .before .args .at + 4) (length (c .before .before .args .tape .now)) (omega arith))
+
+returns-2 : tie.Need-returns-2
+unfolding stepAt
+returns-2 c = simp (lt-leb (c .before .before .before .args .at + 4) (length (c .before .before .before .args .tape .now)) (omega arith))
+
+returns-3 : tie.Need-returns-3
+unfolding stepAt
+returns-3 c = simp (le-leb (c .before .before .before .before .args .at + 4) (length (c .before .before .before .before .args .tape .now)) (omega arith), c .entry-at .ensures)
+
+pub step-at-spec : {M : Type 1} → statement M
+step-at-spec = tie.close (tie.spec returns (λ c. search needs) returns-2 (λ c κs. search needs) (λ c. search needs) returns-3)
