@@ -1,0 +1,67 @@
+/* Peeriewick for C hosts: the calls of document 01, proved in Rattle. Link with libabi.a (`rt staticlib abi`).
+ *
+ * A lent buffer is a pointer and a length in elements; `NULL, 0` is an empty one. Buffers that a call writes must not overlap any other
+ * buffer of that call. No call allocates, keeps anything between calls, or asks anything of the bytes it is given.
+ *
+ * Each call returns the number that declines it, or 0 (README has the table). Other numbers of the answer go into `numbers`, in the
+ * order given below, as many as it has places for; `NULL, 0` where none is wanted. A declined call leaves every buffer as it was. An
+ * accepted one writes what is said below into the first bytes of a buffer, and leaves its surplus as it was. */
+#ifndef PEERIEWICK_H
+#define PEERIEWICK_H
+
+#include <stddef.h>
+#include <stdint.h>
+
+#ifdef __cplusplus
+extern "C" {
+#endif
+
+/* Checks a map. Numbers: gates, inputs, children, codes. Declines with 1 to 8. */
+uint8_t peeriewick_check(const uint8_t *map, size_t map_len,
+                         size_t *numbers, size_t numbers_len);
+
+/* Where in the map the children of a gate stand, two bytes each. Numbers: the place of the first byte, the length in bytes; the length is 0 for
+ * an input, a gate past the end or a map that check declines. */
+void peeriewick_children(const uint8_t *map, size_t map_len, size_t gate,
+                         size_t *numbers, size_t numbers_len);
+
+/* Writes the value of every gate into `out`, for a row of one byte per input. Declines with 1 to 10 and 14. */
+uint8_t peeriewick_evaluate(const uint8_t *map, size_t map_len,
+                            const uint8_t *row, size_t row_len,
+                            uint8_t *out, size_t out_len);
+
+/* Does the configuration obey every gate and show every code? Numbers: 1 for yes, 0 for no. Declines with 1 to 10. */
+uint8_t peeriewick_mark(const uint8_t *map, size_t map_len,
+                        const uint8_t *configuration, size_t configuration_len,
+                        size_t *numbers, size_t numbers_len);
+
+/* Writes a byte per gate into `out`: 1 in the cone, plus 2 in the front, plus 4 interesting. Numbers: the sizes of front and interest
+ * set. Declines with 1 to 11 and 14. */
+uint8_t peeriewick_survey(const uint8_t *map, size_t map_len,
+                          const uint8_t *configuration, size_t configuration_len,
+                          uint8_t *out, size_t out_len,
+                          size_t *numbers, size_t numbers_len);
+
+/* Does one tape entry of 4 bytes on the configuration, and writes the survey of the new one into `work`. Numbers: the drawn gate, how many values
+ * were turned. Declines with 1 to 15. */
+uint8_t peeriewick_move(const uint8_t *map, size_t map_len,
+                        uint8_t *configuration, size_t configuration_len,
+                        const uint8_t *entry, size_t entry_len,
+                        uint8_t *work, size_t work_len,
+                        size_t *numbers, size_t numbers_len);
+
+/* Does the tape's entries until the front is empty (Found) or the tape is used up (Spent). The configuration is then the last one, `work` has its
+ * survey, and for Found `answer` a byte per gate: a state that shows the codes. Numbers: 1 for Found and 0 for Spent, moves,
+ * flips, the front's size. Declines with 1 to 14. */
+uint8_t peeriewick_run(const uint8_t *map, size_t map_len,
+                       uint8_t *configuration, size_t configuration_len,
+                       const uint8_t *tape, size_t tape_len,
+                       uint8_t *work, size_t work_len,
+                       uint8_t *answer, size_t answer_len,
+                       size_t *numbers, size_t numbers_len);
+
+#ifdef __cplusplus
+}
+#endif
+
+#endif
