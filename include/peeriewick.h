@@ -3,9 +3,10 @@
  * A lent buffer is a pointer and a length in elements; `NULL, 0` is an empty one. Buffers that a call writes must not overlap any other
  * buffer of that call. No call allocates, keeps anything between calls, or asks anything of the bytes it is given.
  *
- * Each call returns the number that declines it, or 0 (README has the table). Other numbers of the answer go into `numbers`, in the
- * order given below, as many as it has places for; `NULL, 0` where none is wanted. A declined call leaves every buffer as it was. An
- * accepted one writes what is said below into the first bytes of a buffer, and leaves its surplus as it was. */
+ * Each call but peeriewick_children returns the number that declines it, or 0 (README has the table). Other numbers of the answer go into
+ * `numbers`, in the order given below, as many as it has places for; `NULL, 0` where none is wanted. A declined call leaves every buffer
+ * as it was, `numbers` too: read that only after a return of 0. An accepted one writes what is said below into the first bytes of a buffer,
+ * and leaves its surplus as it was. */
 #ifndef PEERIEWICK_H
 #define PEERIEWICK_H
 
@@ -20,8 +21,9 @@ extern "C" {
 uint8_t peeriewick_check(const uint8_t *map, size_t map_len,
                          size_t *numbers, size_t numbers_len);
 
-/* Where in the map the children of a gate stand, two bytes each. Numbers: the place of the first byte, the length in bytes; the length is 0 for
- * an input, a gate past the end or a map that check declines. */
+/* Where in the map the children of a gate stand, two bytes each. It never declines. Numbers: the place of the first byte, the length in bytes. The
+ * length is 0 for an input, a gate past the end or a map that check declines; the place is then 0 too, but for an input of an accepted map, where it
+ * is the place at which its children would stand. */
 void peeriewick_children(const uint8_t *map, size_t map_len, size_t gate,
                          size_t *numbers, size_t numbers_len);
 
@@ -50,9 +52,10 @@ uint8_t peeriewick_move(const uint8_t *map, size_t map_len,
                         uint8_t *work, size_t work_len,
                         size_t *numbers, size_t numbers_len);
 
-/* Does the tape's entries until the front is empty (Found) or the tape is used up (Spent). The configuration is then the last one, `work` has its
- * survey, and for Found `answer` a byte per gate: a state that shows the codes. Numbers: 1 for Found and 0 for Spent, moves,
- * flips, the front's size. Declines with 1 to 14. */
+/* Does the tape's entries until the front is empty (Found) or the tape is used up (Spent). The front is tested before each entry and after the last:
+ * an empty one is Found, on an empty tape too. The configuration is then the last one, `work` has its survey, and for Found `answer` a byte per
+ * gate: a state that shows the codes; Spent leaves `answer` as it was. Numbers: 1 for Found and 0 for Spent, moves, flips, the front's size, which is
+ * 0 for Found. Declines with 1 to 14. */
 uint8_t peeriewick_run(const uint8_t *map, size_t map_len,
                        uint8_t *configuration, size_t configuration_len,
                        const uint8_t *tape, size_t tape_len,

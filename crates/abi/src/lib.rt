@@ -1,4 +1,4 @@
-// The calls of document 01 for hosts in C and Rust, on byte slices and numbers. Each returns the number that declines the call, or 0. The other numbers of its answer
+// The calls of document 01 for hosts in C and Rust, on byte slices and numbers. Each but children returns the number that declines the call, or 0. The other numbers of its answer
 // go into `numbers`, as many as there are places; a declined call leaves it as it was, like all lent memory.
 mod place;
 mod stretch;
