@@ -1,4 +1,4 @@
-# Sourced by ./run and ./test: what they need is put on the PATH, or named where it is missing.
+# Sourced by the scripts: what they need is put on the PATH, or named where it is missing.
 
 # Rattle's command, rt.
 need_rattle() {
@@ -9,14 +9,19 @@ need_rattle() {
     fi
 }
 
-# cargo, for the independent engine of tests/: fetched where the machine lets us.
-need_cargo() {
-    command -v cargo >/dev/null 2>&1 || PATH="$PATH:${CARGO_HOME:-$HOME/.cargo}/bin"
-    if ! command -v cargo >/dev/null 2>&1 && command -v apt-get >/dev/null 2>&1; then
-        (apt-get update && apt-get install -y cargo) >/dev/null 2>&1 || true
+# need COMMAND PACKAGE: a command of a Debian package, fetched where the machine lets us.
+need() {
+    if ! command -v "$1" >/dev/null 2>&1 && command -v apt-get >/dev/null 2>&1; then
+        (apt-get update && apt-get install -y "$2") >/dev/null 2>&1 || true
     fi
-    if ! command -v cargo >/dev/null 2>&1; then
-        echo "cargo is missing: install Rust 1.63 or later" >&2
+    if ! command -v "$1" >/dev/null 2>&1; then
+        echo "$1 is missing: install it (on Debian the package $2)" >&2
         exit 2
     fi
+}
+
+# cargo, Rust 1.63 or later, for the independent engine of tests/ and for hosts in Rust.
+need_cargo() {
+    command -v cargo >/dev/null 2>&1 || PATH="$PATH:${CARGO_HOME:-$HOME/.cargo}/bin"
+    need cargo cargo
 }

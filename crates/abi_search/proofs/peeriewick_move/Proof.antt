@@ -1,0 +1,34 @@
+use mathlib.Core.Path.{refl}
+use Rattle.search.specs.Move.{did}
+use borrow.Author.Needs.{needs}
+use Rattle.abi_search.proofs.peeriewick_move.Statement.{statement}
+use Rattle.abi_search.proofs.peeriewick_move.Tie as tie
+use Rattle.abi_search.proofs.peeriewick_move.Reads as reads
+use Rattle.abi_search.proofs.peeriewick_move.Lts as lts
+use Rattle.abi_state.proofs.place.two.Reads as two-reads
+use Rattle.search.proofs.make_move.Reads as make-move-reads
+
+returns : tie.Need-returns
+unfolding did
+returns c = let q = rw (c .before .k .given .1) at (c .before .before .before .before .before .before .before .make-move .ensures) in rw (← q) (refl, (refl, (refl, refl)))
+
+returns-2 : tie.Need-returns-2
+unfolding did
+returns-2 c = let q = rw (c .before .before .before .before .before .before .t .given .1) at (c .before .before .before .before .before .before .before .before .before .before .before .before .make-move .ensures) in let w = c .before .before .two .ensures in rw (← q) (w .0, (refl, (refl, w .1)))
+
+pub peeriewick-move-spec : {M : Type 1} → statement M
+peeriewick-move-spec =
+    tie.close
+    (tie.spec
+    (λ c κs. search needs)
+    (λ c. search needs)
+    (λ c. search needs)
+    (λ c. search needs)
+    (λ c κs. search needs)
+    (λ c. search needs)
+    (λ c. search needs)
+    returns
+    (λ c. search needs)
+    (λ c. search needs)
+    (λ c. search needs)
+    returns-2)

@@ -1,0 +1,55 @@
+// Move and Run for hosts in C and Rust, as `abi_state` has its calls.
+use abi_state::place;
+use circuit::Ending;
+use search::Moved;
+ghost use mathlib.Core.Path.{_≡_};
+ghost use Rattle.search.specs.Move.{moving};
+ghost use Rattle.search.specs.Run.{running};
+ghost use Rattle.abi_search.specs.Numbers.{moveNumbers, runNumbers};
+
+// Move. Numbers: the drawn gate, how many values it turned.
+#[no_mangle]
+pub extern "C" fn peeriewick_move(
+    map: &[u8],
+    configuration: &mut [u8],
+    tape: &[u8],
+    work: &mut [u8],
+    numbers: &mut [usize],
+) -> u8
+    ensures { λ r. ⌜ r ≡ moving (now (map .entry)) (now (configuration .entry)) (now (tape .entry)) (now (work .entry)) .number ⌝ }
+    ensures { λ _. ⌜ now (configuration .exit) ≡ moving (now (map .entry)) (now (configuration .entry)) (now (tape .entry)) (now (work .entry)) .configuration ⌝ }
+    ensures { λ _. ⌜ now (work .exit) ≡ moving (now (map .entry)) (now (configuration .entry)) (now (tape .entry)) (now (work .entry)) .work ⌝ }
+    ensures { λ _. ⌜ now (numbers .exit) ≡ moveNumbers (moving (now (map .entry)) (now (configuration .entry)) (now (tape .entry)) (now (work .entry))) (now (numbers .entry)) ⌝ }
+{
+    match search::make_move(map, configuration, tape, work) {
+        Moved::Refused(k) => k,
+        Moved::Done(t) => place::two(numbers, t.gate, t.turned as usize),
+    }
+}
+
+// Run. Numbers: 1 for Found and 0 for Spent, moves, flips, the front's size.
+#[no_mangle]
+pub extern "C" fn peeriewick_run(
+    map: &[u8],
+    configuration: &mut [u8],
+    tape: &[u8],
+    work: &mut [u8],
+    answer: &mut [u8],
+    numbers: &mut [usize],
+) -> u8
+    ensures { λ r. ⌜ r ≡ running (now (map .entry)) (now (configuration .entry)) (now (tape .entry)) (now (work .entry)) (now (answer .entry)) .told .number ⌝ }
+    ensures { λ _. ⌜ now (configuration .exit) ≡ running (now (map .entry)) (now (configuration .entry)) (now (tape .entry)) (now (work .entry)) (now (answer .entry)) .configuration ⌝ }
+    ensures { λ _. ⌜ now (work .exit) ≡ running (now (map .entry)) (now (configuration .entry)) (now (tape .entry)) (now (work .entry)) (now (answer .entry)) .work ⌝ }
+    ensures { λ _. ⌜ now (answer .exit) ≡ running (now (map .entry)) (now (configuration .entry)) (now (tape .entry)) (now (work .entry)) (now (answer .entry)) .answer ⌝ }
+    ensures { λ _. ⌜ now (numbers .exit) ≡ runNumbers (running (now (map .entry)) (now (configuration .entry)) (now (tape .entry)) (now (work .entry)) (now (answer .entry))) (now (numbers .entry)) ⌝ }
+{
+    let outcome = search::run(map, configuration, tape, work, answer);
+    let ending = outcome.ending;
+    let moves = outcome.moves as usize;
+    let flips = outcome.flips as usize;
+    match ending {
+        Ending::Refused(k) => k,
+        Ending::Found => place::four(numbers, 1, moves, flips, 0),
+        Ending::Spent(front) => place::four(numbers, 0, moves, flips, front as usize),
+    }
+}

@@ -1,0 +1,22 @@
+use mathlib.Core.Path.{refl, sym, ap, _∙_}
+use Rattle.map.specs.Check.{says}
+use borrow.Author.Needs.{needs}
+use Rattle.abi_state.proofs.peeriewick_check.Statement.{statement}
+use Rattle.abi_state.proofs.peeriewick_check.Tie as tie
+use Rattle.abi_state.proofs.peeriewick_check.Reads as reads
+use Rattle.abi_state.proofs.peeriewick_check.Lts as lts
+use Rattle.abi_state.proofs.place.four.Reads as four-reads
+use Rattle.map.proofs.check.Reads as check-reads
+
+returns : tie.Need-returns
+unfolding says
+returns c = rw (← (ap says (sym (c .before .k .given .1)) ∙ c .before .before .before .check .ensures)) (refl, refl)
+
+returns-2 : tie.Need-returns-2
+unfolding says
+returns-2 c = rw (← (ap says (sym (c .before .before .before .before .before .c .given .1)) ∙ c .before .before .before .before .before .before .before .check .ensures)) (c .before .before .four .ensures)
+
+pub peeriewick-check-spec : {M : Type 1} → statement M
+peeriewick-check-spec =
+    tie.close
+    (tie.spec (λ c κs. search needs) (λ c. search needs) (λ c. search needs) (λ c κs. search needs) returns (λ c. search needs) returns-2)

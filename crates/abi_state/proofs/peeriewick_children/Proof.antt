@@ -1,0 +1,13 @@
+use borrow.Author.Needs.{needs}
+use Rattle.abi_state.proofs.peeriewick_children.Statement.{statement}
+use Rattle.abi_state.proofs.peeriewick_children.Tie as tie
+use Rattle.abi_state.proofs.peeriewick_children.Reads as reads
+use Rattle.abi_state.proofs.peeriewick_children.Lts as lts
+use Rattle.abi_state.proofs.place.two.Reads as two-reads
+use Rattle.abi_state.proofs.stretch.of.Reads as of-reads
+
+returns : tie.Need-returns
+returns c = let p = c .before .before .before .before .of .ensures in rw (← p .0, ← p .1) (c .before .before .two .ensures .1)
+
+pub peeriewick-children-spec : {M : Type 1} → statement M
+peeriewick-children-spec = tie.close (tie.spec (λ c κs. search needs) (λ c κs. search needs) (λ c. search needs) returns)

@@ -1,0 +1,22 @@
+use mathlib.Core.Path.{refl}
+use mathlib.Core.Path.{refl}
+use Rattle.state.specs.State.{writes}
+use borrow.Author.Needs.{needs}
+use Rattle.abi_state.proofs.peeriewick_evaluate.Statement.{statement}
+use Rattle.abi_state.proofs.peeriewick_evaluate.Tie as tie
+use Rattle.abi_state.proofs.peeriewick_evaluate.Reads as reads
+use Rattle.abi_state.proofs.peeriewick_evaluate.Lts as lts
+use Rattle.state.proofs.evaluate.Reads as evaluate-reads
+
+returns : tie.Need-returns
+unfolding writes
+returns c = let q = rw (c .before .k .given .1) at (c .before .before .before .before .before .evaluate .ensures) in rw (← q) (refl, refl)
+
+returns-2 : tie.Need-returns-2
+unfolding writes
+returns-2 c = let q = rw (c .enum-told .given .1) at (c .before .before .before .before .evaluate .ensures) in rw (← q) (refl, refl)
+
+pub peeriewick-evaluate-spec : {M : Type 1} → statement M
+peeriewick-evaluate-spec =
+    tie.close
+    (tie.spec (λ c κs. search needs) (λ c. search needs) (λ c. search needs) (λ c. search needs) returns (λ c. search needs) returns-2)

@@ -1,0 +1,37 @@
+use mathlib.Core.Path.{refl, sym, ap, _∙_}
+use Rattle.state.specs.State.{tells}
+use borrow.Author.Needs.{needs}
+use Rattle.abi_state.proofs.peeriewick_mark.Statement.{statement}
+use Rattle.abi_state.proofs.peeriewick_mark.Tie as tie
+use Rattle.abi_state.proofs.peeriewick_mark.Reads as reads
+use Rattle.abi_state.proofs.peeriewick_mark.Lts as lts
+use Rattle.abi_state.proofs.place.one.Reads as one-reads
+use Rattle.state.proofs.mark.Reads as mark-reads
+
+returns : tie.Need-returns
+unfolding tells
+returns c = rw (← (ap tells (sym (c .before .k .given .1)) ∙ c .before .before .before .mark .ensures)) (refl, refl)
+
+returns-2 : tie.Need-returns-2
+unfolding tells
+returns-2 c = rw (← (ap tells (sym (c .before .before .before .before .enum-told .given .1)) ∙ c .before .before .before .before .before .before .mark .ensures)) (c .before .before .one .ensures)
+
+returns-3 : tie.Need-returns-3
+unfolding tells
+returns-3 c = rw (← (ap tells (sym (c .before .before .before .before .enum-told2 .given .1)) ∙ c .before .before .before .before .before .before .mark .ensures)) (c .before .before .one2 .ensures)
+
+pub peeriewick-mark-spec : {M : Type 1} → statement M
+peeriewick-mark-spec =
+    tie.close
+    (tie.spec
+    (λ c κs. search needs)
+    (λ c. search needs)
+    (λ c. search needs)
+    (λ c κs. search needs)
+    (λ c. search needs)
+    (λ c κs. search needs)
+    returns
+    (λ c. search needs)
+    returns-2
+    (λ c. search needs)
+    returns-3)

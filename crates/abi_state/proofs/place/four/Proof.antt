@@ -1,0 +1,16 @@
+use mathlib.Core.Path.{refl}
+use Rattle.abi_state.proofs.Places.{placed-four}
+use borrow.Author.Needs.{needs}
+use Rattle.abi_state.proofs.place.four.Statement.{statement}
+use Rattle.abi_state.proofs.place.four.Tie as tie
+use Rattle.abi_state.proofs.place.four.Reads as reads
+use Rattle.abi_state.proofs.place.four.Lts as lts
+use Rattle.abi_state.proofs.place.put.Reads as put-reads
+
+returns : tie.Need-returns
+returns c = (refl, rw (c .before .before .put4 .ensures, c .before .before .before .before .before .before .put3 .ensures, c .before .before .before .before .before .before .before .before .before .before .put2 .ensures, c .before .before .before .before .before .before .before .before .before .before .before .before .before .before .put .ensures) (placed-four _ _ _ _ _))
+
+pub four-spec : {M : Type 1} → statement M
+four-spec =
+    tie.close
+    (tie.spec (λ c κs. search needs) (λ c κs. search needs) (λ c κs. search needs) (λ c κs. search needs) (λ c. search needs) returns)

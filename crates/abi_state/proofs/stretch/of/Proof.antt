@@ -1,0 +1,25 @@
+use mathlib.Core.Path.{sym, ap, _∙_}
+use Rattle.map.specs.Check.{says}
+use Rattle.map.proofs.Answers.{was-accepted, was-refused}
+use Rattle.abi_state.proofs.Stretches.{no-map}
+use Rattle.map.specs.declared.Counts.{Counts}
+use Rattle.map.specs.Check.{countsOf}
+use borrow.Author.Needs.{needs}
+use Rattle.abi_state.proofs.stretch.of.Statement.{statement}
+use Rattle.abi_state.proofs.stretch.of.Tie as tie
+use Rattle.abi_state.proofs.stretch.of.Reads as reads
+use Rattle.abi_state.proofs.stretch.of.Lts as lts
+use Rattle.abi_state.proofs.stretch.within.Reads as within-reads
+use Rattle.map.proofs.check.Reads as check-reads
+
+within-requires : tie.Need-within-requires
+unfolding countsOf
+within-requires c κs = let t = was-accepted _ _ (ap says (sym (c .before .c .given .1)) ∙ c .before .before .before .check .ensures) in (t .0, ap (λ (n : Counts). n .gates) (t .1))
+
+returns : tie.Need-returns
+unfolding countsOf
+returns c = no-map _ _ (was-refused _ _ (ap says (sym (c .enum-told .given .1)) ∙ c .before .before .check .ensures) .1)
+
+pub of-spec : {M : Type 1} → statement M
+of-spec =
+    tie.close (tie.spec (λ c κs. search needs) (λ c. search needs) (λ c. search needs) within-requires returns (λ c. search needs))

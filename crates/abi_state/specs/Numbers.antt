@@ -1,0 +1,31 @@
+-- Document 01's calls for hosts in C and Rust. What they return and leave is said by the same definitions as the calls' own; here stands only where the
+-- numbers of an answer go. Assumes nothing.
+use Prim.Native.Nat.{ℕ}
+use mathlib.Core.Bool.{Bool, cond}
+use mathlib.Core.List.{List, [], _∷_}
+use Rattle.circuit.specs.Tools.{byte}
+use Rattle.map.specs.Check.{Said}
+use Rattle.map.specs.Children.{stretchAt, stretchLength}
+use Rattle.state.specs.State.{Marking}
+
+-- the numbers xs in the first places of the lent memory ns, as many as it has
+unfoldable pub placed : List ℕ → List ℕ → List ℕ
+placed [] ns = ns
+placed (x ∷ xs) [] = []
+placed (x ∷ xs) (n ∷ ns) = x ∷ placed xs ns
+
+-- the memory for the numbers of an answer after a call: an accepted call's stand there, "untouched" by a declined one
+abbrev pub numbered : Bool → List ℕ → List ℕ → List ℕ
+numbered accepted xs ns = cond accepted (placed xs ns) ns
+
+-- "Check returns counts of gates, inputs, children and codes."
+abbrev pub checkNumbers : Said → List ℕ → List ℕ
+checkNumbers r = numbered (r .accepted) (r .gates ∷ r .inputs ∷ r .children ∷ r .codes ∷ [])
+
+-- Children: where in map m the stretch of gate g begins, and its length
+abbrev pub childrenNumbers : List ℕ → ℕ → List ℕ → List ℕ
+childrenNumbers m g = placed (stretchAt m g ∷ stretchLength m g ∷ [])
+
+-- Mark: 1 for yes, 0 for no
+abbrev pub markNumbers : Marking → List ℕ → List ℕ
+markNumbers r = numbered (r .accepted) (byte (r .yes) ∷ [])

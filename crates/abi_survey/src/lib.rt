@@ -1,0 +1,24 @@
+// Survey for hosts in C and Rust, as `abi_state` has its calls.
+use abi_state::place;
+use survey::Surveyed;
+ghost use mathlib.Core.Path.{_≡_};
+ghost use Rattle.survey.specs.Survey.{surveying};
+ghost use Rattle.abi_survey.specs.Numbers.{surveyNumbers};
+
+// Survey. Numbers: front, interest.
+#[no_mangle]
+pub extern "C" fn peeriewick_survey(
+    map: &[u8],
+    configuration: &[u8],
+    out: &mut [u8],
+    numbers: &mut [usize],
+) -> u8
+    ensures { λ r. ⌜ r ≡ surveying (now (map .entry)) (now (configuration .entry)) (now (out .entry)) .number ⌝ }
+    ensures { λ _. ⌜ now (out .exit) ≡ surveying (now (map .entry)) (now (configuration .entry)) (now (out .entry)) .out ⌝ }
+    ensures { λ _. ⌜ now (numbers .exit) ≡ surveyNumbers (surveying (now (map .entry)) (now (configuration .entry)) (now (out .entry))) (now (numbers .entry)) ⌝ }
+{
+    match survey::survey(map, configuration, out) {
+        Surveyed::Refused(k) => k,
+        Surveyed::Done(z) => place::two(numbers, z.front as usize, z.interest as usize),
+    }
+}

@@ -1,0 +1,207 @@
+//! Peeriewick for hosts in Rust: the calls of document 01 on slices, over the proved engine's archive.
+//!
+//! Any bytes may be given to any call. A call that is refused gives [`Refused`] with its number and leaves every slice as it was; an accepted
+//! one writes into the first bytes of a slice and leaves its surplus. Nothing allocates or keeps anything between calls. What a C host must see
+//! to itself, good pointers and buffers that don't overlap, slices and borrows have by themselves.
+
+pub mod raw;
+
+use std::fmt;
+
+/// The number of the first test that fails, as document 01 lists them.
+#[derive(Debug, Clone, Copy, PartialEq, Eq, Hash)]
+pub struct Refused(pub u8);
+
+impl fmt::Display for Refused {
+    fn fmt(&self, f: &mut fmt::Formatter<'_>) -> fmt::Result {
+        let what = match self.0 {
+            1 => "the map is shorter than 12 bytes",
+            2 => "the map has no gate or more than 1,024",
+            3 => "an offset or the map's length isn't what the counts give",
+            4 => "a kind is above 4 or a fan-in isn't allowed for its kind",
+            5 => "a first child position or the child count is wrong",
+            6 => "a child isn't below its gate or doesn't ascend",
+            7 => "a code's gate is past the last or doesn't ascend, or its value or zero byte is wrong",
+            8 => "a coded gate is some gate's child",
+            9 => "the row or configuration has the wrong length",
+            10 => "the row or configuration has a byte above 1",
+            11 => "a coded gate's value isn't its code",
+            12 => "the tape's length isn't a multiple of 4 or is above 65,532, or a lent entry isn't 4 bytes",
+            13 => "an entry has a kind above 2",
+            14 => "output, work or answer memory is shorter than the gate count",
+            15 => "the front is empty",
+            _ => "no number of document 01",
+        };
+        write!(f, "refused with {}: {}", self.0, what)
+    }
+}
+
+impl std::error::Error for Refused {}
+
+/// What a call's number means for its answer.
+fn answer<T>(number: u8, accepted: T) -> Result<T, Refused> {
+    match number {
+        0 => Ok(accepted),
+        _ => Err(Refused(number)),
+    }
+}
+
+/// Check's counts.
+#[derive(Debug, Clone, Copy, PartialEq, Eq, Hash)]
+pub struct Counts {
+    pub gates: usize,
+    pub inputs: usize,
+    pub children: usize,
+    pub codes: usize,
+}
+
+/// Checks a map. Declines with 1 to 8.
+pub fn check(map: &[u8]) -> Result<Counts, Refused> {
+    let mut n = [0usize; 4];
+    let number = unsafe { raw::peeriewick_check(map.as_ptr(), map.len(), n.as_mut_ptr(), n.len()) };
+    let [gates, inputs, children, codes] = n;
+    answer(number, Counts { gates, inputs, children, codes })
+}
+
+/// The part of the map that holds the children of a gate, two bytes each: no copy. Empty for an input, a gate past the end or a map that [`check`]
+/// declines.
+pub fn children(map: &[u8], gate: usize) -> &[u8] {
+    let mut n = [0usize; 2];
+    unsafe { raw::peeriewick_children(map.as_ptr(), map.len(), gate, n.as_mut_ptr(), n.len()) };
+    let [at, length] = n;
+    &map[at..at + length]
+}
+
+/// Writes the value of every gate into `out`, for a row of one byte per input. Declines with 1 to 10 and 14.
+pub fn evaluate(map: &[u8], row: &[u8], out: &mut [u8]) -> Result<(), Refused> {
+    let number = unsafe {
+        raw::peeriewick_evaluate(map.as_ptr(), map.len(), row.as_ptr(), row.len(), out.as_mut_ptr(), out.len())
+    };
+    answer(number, ())
+}
+
+/// Does the configuration obey every gate and show every code? Declines with 1 to 10.
+pub fn mark(map: &[u8], configuration: &[u8]) -> Result<bool, Refused> {
+    let mut n = [0usize; 1];
+    let number = unsafe {
+        raw::peeriewick_mark(
+            map.as_ptr(),
+            map.len(),
+            configuration.as_ptr(),
+            configuration.len(),
+            n.as_mut_ptr(),
+            n.len(),
+        )
+    };
+    answer(number, n[0] == 1)
+}
+
+/// The sizes of front and interest set.
+#[cfg(feature = "survey")]
+#[derive(Debug, Clone, Copy, PartialEq, Eq, Hash)]
+pub struct Sizes {
+    pub front: usize,
+    pub interest: usize,
+}
+
+/// Writes a byte per gate into `out`: 1 in the cone, plus 2 in the front, plus 4 interesting. Declines with 1 to 11 and 14.
+#[cfg(feature = "survey")]
+pub fn survey(map: &[u8], configuration: &[u8], out: &mut [u8]) -> Result<Sizes, Refused> {
+    let mut n = [0usize; 2];
+    let number = unsafe {
+        raw::peeriewick_survey(
+            map.as_ptr(),
+            map.len(),
+            configuration.as_ptr(),
+            configuration.len(),
+            out.as_mut_ptr(),
+            out.len(),
+            n.as_mut_ptr(),
+            n.len(),
+        )
+    };
+    let [front, interest] = n;
+    answer(number, Sizes { front, interest })
+}
+
+/// The gate that an entry drew, and how many values it turned.
+#[cfg(feature = "search")]
+#[derive(Debug, Clone, Copy, PartialEq, Eq, Hash)]
+pub struct Turn {
+    pub gate: usize,
+    pub turned: usize,
+}
+
+/// Does one tape entry of 4 bytes on the configuration, and writes the survey of the new one into `work`. Declines with 1 to 15. (`move` is a word
+/// of the language.)
+#[cfg(feature = "search")]
+pub fn make_move(map: &[u8], configuration: &mut [u8], entry: &[u8], work: &mut [u8]) -> Result<Turn, Refused> {
+    let mut n = [0usize; 2];
+    let number = unsafe {
+        raw::peeriewick_move(
+            map.as_ptr(),
+            map.len(),
+            configuration.as_mut_ptr(),
+            configuration.len(),
+            entry.as_ptr(),
+            entry.len(),
+            work.as_mut_ptr(),
+            work.len(),
+            n.as_mut_ptr(),
+            n.len(),
+        )
+    };
+    let [gate, turned] = n;
+    answer(number, Turn { gate, turned })
+}
+
+/// How a run that is not declined ends.
+#[cfg(feature = "search")]
+#[derive(Debug, Clone, Copy, PartialEq, Eq, Hash)]
+pub enum Ending {
+    /// The front is empty, and `answer` holds a state that shows the codes.
+    Found,
+    /// The tape is used up, and the front has this size.
+    Spent(usize),
+}
+
+/// A run's ending, the number of entries done and the sum of the values they turned.
+#[cfg(feature = "search")]
+#[derive(Debug, Clone, Copy, PartialEq, Eq, Hash)]
+pub struct Outcome {
+    pub ending: Ending,
+    pub moves: usize,
+    pub flips: usize,
+}
+
+/// Does the tape's entries until the front is empty or the tape is used up. The configuration is then the last one, `work` has its survey, and for
+/// [`Ending::Found`] `answer` a byte per gate. Declines with 1 to 14.
+#[cfg(feature = "search")]
+pub fn run(
+    map: &[u8],
+    configuration: &mut [u8],
+    tape: &[u8],
+    work: &mut [u8],
+    answer_memory: &mut [u8],
+) -> Result<Outcome, Refused> {
+    let mut n = [0usize; 4];
+    let number = unsafe {
+        raw::peeriewick_run(
+            map.as_ptr(),
+            map.len(),
+            configuration.as_mut_ptr(),
+            configuration.len(),
+            tape.as_ptr(),
+            tape.len(),
+            work.as_mut_ptr(),
+            work.len(),
+            answer_memory.as_mut_ptr(),
+            answer_memory.len(),
+            n.as_mut_ptr(),
+            n.len(),
+        )
+    };
+    let [found, moves, flips, front] = n;
+    let ending = if found == 1 { Ending::Found } else { Ending::Spent(front) };
+    answer(number, Outcome { ending, moves, flips })
+}
