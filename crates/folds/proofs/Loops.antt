@@ -6,7 +6,7 @@ use mathlib.Core.Logic.{inl, inr}
 use native.Mathlib.Nat.{le-of-suc-le-suc, eq-or-lt-of-le}
 use native.Mathlib.Numerals.{add-one}
 use native.Mathlib.Omega.{arith}
-use Rattle.folds.specs.Folds.{allBelow}
+use Rattle.folds.specs.Folds.{_and_, allBelow}
 use Rattle.folds.proofs.Tests.{and-left, and-right, and-both, and-first-false, and-second-false, flags}
 
 -- ---- a test of every number below n
@@ -19,6 +19,10 @@ module _ (p : ℕ → Bool) where
   pub all-more : (n : ℕ) → allBelow n p ≡ true → p n ≡ true → allBelow (n + 1) p ≡ true
   unfolding allBelow
   all-more n a h = rw (add-one n) (and-both (allBelow n p) (p n) a h)
+
+  pub all-next : (n : ℕ) → allBelow (n + 1) p ≡ (allBelow n p and p n)
+  unfolding allBelow
+  all-next n = rw (add-one n)
 
   -- one number at which p fails
   pub all-fails : (n i : ℕ) → i < n → p i ≡ false → allBelow n p ≡ false

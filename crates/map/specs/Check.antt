@@ -195,9 +195,18 @@ pub record Shaped (m : List ℕ) : Type 0 where
   pub few : gateCount m ≤ 1024
   pub long : length m ≡ lengthGiven m
 
+-- child p of all is child `place` of gate `gate`
+pub record Owner (m : List ℕ) (p : ℕ) : Type 0 where
+  pub gate : ℕ
+  pub place : ℕ
+  pub in-map : gate < gateCount m
+  pub in-fan : place < fanIn m gate
+  pub is : firstChild m gate + place ≡ p
+
 -- and of 5
 pub record Placed (m : List ℕ) : Type 0 where
   pub shaped : Shaped m
+  pub owner : (p : ℕ) → p < childCount m → Owner m p
   pub within : (g : ℕ) → g < gateCount m → firstChild m g + fanIn m g ≤ childCount m
 
 -- and of 6 and 7

@@ -13,22 +13,22 @@ pub fn input_bit(kind: u8) -> usize
     if kind == 0 { 1 } else { 0 }
 }
 
+// The smallest and the largest fan-in of each kind.
+const LEAST: [u8; 5] = [0, 1, 2, 2, 2];
+
+const MOST: [u8; 5] = [0, 1, 8, 8, 2];
+
 // Test 4: is this a kind, and the fan-in allowed for it?
 pub fn fits(kind: u8, fan: u8) -> bool
     ensures { λ r. ⌜ r ≡ kindFits kind fan ⌝ }
 {
-    match kind {
-        0 => fan == 0,
-        1 => fan == 1,
-        2 | 3 => {
-            if fan < 2 {
-                return false;
-            }
-            fan <= 8
-        }
-        4 => fan == 2,
-        _ => false,
+    if 4 < kind {
+        return false;
     }
+    if fan < LEAST[kind as usize] {
+        return false;
+    }
+    fan <= MOST[kind as usize]
 }
 
 // What a gate of this kind gives where `ones` of its `fan` children are at 1.

@@ -154,48 +154,32 @@ fn codes_ok(map: &[u8], gates: usize, start: usize, codes: usize) -> bool
     true
 }
 
-// Test 8 at gate g.
-fn gate_free(map: &[u8], gates: usize, g: usize, marks: &[u8]) -> bool
-    requires { ⌜ Sound (now map) × ((gates ≡ gateCount (now map)) × (g < gates)) ⌝ }
-    requires { ⌜ (1024 ≤ length (now marks)) × CodeMarks (now map) (codeCount (now map)) (now marks) ⌝ }
-    ensures { λ r. ⌜ r ≡ freeTest (now (map .entry)) g ⌝ }
-{
-    let f = decode::wide(map[13 + 4 * g]);
-    let mut j = 0;
-    while j < f {
-        let x = decode::child(map, gates, g, j);
-        if marks[x] != 0 {
-            return false;
-        }
-        j += 1;
-    }
-    true
-}
-
-// Test 8, with the coded gates marked.
-fn all_free(map: &[u8], gates: usize, marks: &[u8]) -> bool
-    requires { ⌜ Sound (now map) × (gates ≡ gateCount (now map)) ⌝ }
+// Test 8, with the coded gates marked: over all children, whosever they are.
+fn all_free(map: &[u8], gates: usize, children: usize, marks: &[u8]) -> bool
+    requires { ⌜ Sound (now map) × ((gates ≡ gateCount (now map)) × (children ≡ childCount (now map))) ⌝ }
     requires { ⌜ (1024 ≤ length (now marks)) × CodeMarks (now map) (codeCount (now map)) (now marks) ⌝ }
     ensures { λ r. ⌜ r ≡ allBelow (gateCount (now (map .entry))) (freeTest (now (map .entry))) ⌝ }
 {
-    let mut g = 0;
-    while g < gates {
-        if !gate_free(map, gates, g, marks) {
+    let mut p = 0;
+    while p < children {
+        let x = decode::child_from(map, gates, p, 0);
+        if marks[x] != 0 {
             return false;
         }
-        g += 1;
+        p += 1;
     }
     true
 }
 
 // Test 8.
-fn free_ok(map: &[u8], gates: usize, start: usize, codes: usize) -> bool
-    requires { ⌜ Sound (now map) × ((gates ≡ gateCount (now map)) × ((start ≡ codesAt (now map)) × (codes ≡ codeCount (now map)))) ⌝ }
+fn free_ok(map: &[u8], gates: usize, children: usize, start: usize, codes: usize) -> bool
+    requires { ⌜ Sound (now map) × ((gates ≡ gateCount (now map)) × (children ≡ childCount (now map))) ⌝ }
+    requires { ⌜ (start ≡ codesAt (now map)) × (codes ≡ codeCount (now map)) ⌝ }
     ensures { λ r. ⌜ r ≡ allBelow (gateCount (now (map .entry))) (freeTest (now (map .entry))) ⌝ }
 {
     let mut marks = [0u8; 1024];
     decode::mark_codes(map, start, codes, &mut marks);
-    all_free(map, gates, &marks)
+    all_free(map, gates, children, &marks)
 }
 
 // The first of the tests 1 to 3 that fails, or 0.
@@ -236,7 +220,7 @@ fn bodies_failed(map: &[u8], gates: usize, children: usize, codes: usize) -> u8
     if !codes_ok(map, gates, start, codes) {
         return 7;
     }
-    if !free_ok(map, gates, start, codes) {
+    if !free_ok(map, gates, children, start, codes) {
         return 8;
     }
     0

@@ -4,6 +4,7 @@ use super::gates;
 use map::decode;
 use map::kinds;
 ghost use mathlib.Core.Path.{_≡_};
+ghost use mathlib.Core.Logic.{_⊎_};
 ghost use mathlib.Core.Bool.{cond};
 ghost use Prim.Native.Nat.{_+_, _<_, _≤_};
 ghost use lib.ListN.{length};
@@ -22,19 +23,24 @@ pub fn bit(v: bool) -> u8
     if v { 1 } else { 0 }
 }
 
-// Test 10.
+fn larger(a: u8, b: u8) -> u8
+    ensures { λ r. ⌜ (a ≤ r) × ((b ≤ r) × ((r ≡ a) ⊎ (r ≡ b))) ⌝ }
+{
+    if a < b { b } else { a }
+}
+
+// Test 10, by the largest byte: a loop that goes to the end is one that the compiler can do many bytes at a time.
 pub fn bits_ok(s: &[u8]) -> bool
     ensures { λ r. ⌜ r ≡ bitsTest (now (s .entry)) ⌝ }
 {
     let n = s.len();
+    let mut most = 0;
     let mut i = 0;
     while i < n {
-        if 1 < s[i] {
-            return false;
-        }
+        most = larger(most, s[i]);
         i += 1;
     }
-    true
+    most <= 1
 }
 
 // The value of gate g: an input's from place `at` of the row, another's as its children give it.

@@ -2,10 +2,11 @@
 use Prim.Native.Nat.{ℕ, zero, suc, _+_, _-_, _*_, _<_, _≤_}
 use mathlib.Core.Path.{_≡_, refl, sym, _∙_}
 use mathlib.Core.Logic.{inl, inr}
-use mathlib.Core.Bool.{Bool, true, false, not}
+use mathlib.Core.Bool.{Bool, true, false, not, cond}
 use mathlib.Core.List.{List, List·Memᴰ as In}
 use native.Mathlib.Omega.{arith}
 use lib.ListN.{length, getD, set}
+use lib.Seq.{set-getD}
 use borrow.Author.Tests.{eq-eqb, ne-eqb}
 use Rattle.folds.proofs.Tests.{which, and-past, and-first-false}
 use Rattle.circuit.specs.Tools.{byte}
@@ -16,30 +17,23 @@ use Rattle.survey.specs.Marks.{coneMarks, paint, toOne, coneTurn, frontA
 use Rattle.survey.proofs.Tables.{table-of, countFrom, count-none, count-more, count-all}
 use Rattle.survey.proofs.Pass.{From, begins, ends, mark-is, passes, turns}
 
--- ---- a gate's turn, as the code takes it: u is 1 where the gate is not justified
-
-pub was-justified : (b : Bool) (u : ℕ) → u ≡ byte (not b) → u ≡ 0 → b ≡ true
-was-justified true u e z = refl
-was-justified false u e z = absurd (omega arith)
-
-not-justified : (b : Bool) (u : ℕ) → u ≡ byte (not b) → (u ≡ 0 → ⊥) → b ≡ false
-not-justified true u e z = absurd (z e)
-not-justified false u e z = refl
+-- ---- a gate's turn, as the code takes it
 
 module _ (c : Circuit) (s : List ℕ) (g : ℕ) (w : List ℕ) where
-  -- outside the cone, in the front, and in the cone and justified
+  -- outside the cone
   pub turn-skips : getD w g 0 ≡ 0 → (w ≡ coneTurn c s g w) × (0 ≡ frontAt c s g w)
   unfolding coneTurn frontAt
   turn-skips z = (rw (eq-eqb (getD w g 0) 0 z), rw (eq-eqb (getD w g 0) 0 z))
 
-  module _ (in-it : getD w g 0 ≡ 0 → ⊥) (u : ℕ) (e : u ≡ byte (not (justified c s g))) where
-    pub turn-fronts : (u ≡ 0 → ⊥) → (set w g (1 + 2 * u) ≡ coneTurn c s g w) × (1 ≡ frontAt c s g w)
-    unfolding coneTurn frontAt reasons paint
-    turn-fronts z = let j = not-justified (justified c s g) u e z in (rw (ne-eqb (getD w g 0) 0 in-it, e, j), rw (ne-eqb (getD w g 0) 0 in-it, j))
-
-    pub turn-brings : u ≡ 0 → (v : List ℕ) → v ≡ paint toOne (reasons c s g) (set w g (1 + 2 * u)) → (v ≡ coneTurn c s g w) × (0 ≡ frontAt c s g w)
+  -- in the front, and in the cone and justified
+  module _ (in-it : getD w g 0 ≡ 0 → ⊥) where
+    pub turn-fronts : justified c s g ≡ false → (set w g 3 ≡ coneTurn c s g w) × (1 ≡ frontAt c s g w)
     unfolding coneTurn frontAt
-    turn-brings z v q = (q ∙ rw (ne-eqb (getD w g 0) 0 in-it, e), rw (ne-eqb (getD w g 0) 0 in-it, ← e, z))
+    turn-fronts j = (rw (ne-eqb (getD w g 0) 0 in-it, j), rw (ne-eqb (getD w g 0) 0 in-it, j))
+
+    pub turn-brings : justified c s g ≡ true → (paint toOne (reasons c s g) w ≡ coneTurn c s g w) × (0 ≡ frontAt c s g w)
+    unfolding coneTurn frontAt
+    turn-brings j = (rw (ne-eqb (getD w g 0) 0 in-it, j), rw (ne-eqb (getD w g 0) 0 in-it, j))
 
 -- ---- the pass
 
@@ -87,8 +81,19 @@ module _ (c : Circuit) (s : List ℕ) where
     unfolding cone
     turned q = turns (c .gates) (reasons c s) (coded c) coneMark reachMark brings-below g h w k toOne (λ b. refl) (λ x b. refl) q
 
-    turn-in : cone c s g ≡ true → ConeFrom g (paint toOne (reasons c s g) (set w g (1 + 2 * byte (not (justified c s g)))))
-    turn-in q = rw (← late-in q) (turned q)
+    -- a justified gate's mark stays, and an unjustified one brings nothing
+    brings-all : cone c s g ≡ true → justified c s g ≡ true → set w g (coneMark g) ≡ w
+    brings-all q j = let e : coneMark g ≡ getD w g 0 = late-in q ∙ rw (j, marked, q) in rw e (set-getD w g 0)
+
+    brings-none : justified c s g ≡ false → (v : List ℕ) → paint toOne (reasons c s g) v ≡ v
+    unfolding reasons paint
+    brings-none j v = rw j
+
+    turn-in : cone c s g ≡ true → ConeFrom g (cond (justified c s g) (paint toOne (reasons c s g) w) (set w g 3))
+    turn-in q = elim (which (justified c s g)) [
+      | inl j ↦ rw j (rw (brings-all q j) at (turned q))
+      | inr j ↦ rw j (rw (brings-none j, late-in q, j) at (turned q))
+    ]
 
     turn-out : cone c s g ≡ false → ConeFrom g w
     unfolding cone

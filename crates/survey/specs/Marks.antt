@@ -23,9 +23,9 @@ paint f (x ∷ xs) w = paint f xs (set w x (f (getD w x 0)))
 abbrev pub toOne : ℕ → ℕ
 toOne b = 1
 
--- the marks after gate g's turn
+-- the marks after gate g's turn: where it is in the cone, it brings its reasons, or it is in the front
 unfoldable pub coneTurn : Circuit → List ℕ → ℕ → List ℕ → List ℕ
-coneTurn c s g w = cond (eqb (getD w g 0) 0) w (paint toOne (reasons c s g) (set w g (1 + 2 * byte (not (justified c s g)))))
+coneTurn c s g w = cond (eqb (getD w g 0) 0) w (cond (justified c s g) (paint toOne (reasons c s g) w) (set w g 3))
 
 -- 1 if gate g is in the front, else 0
 unfoldable pub frontAt : Circuit → List ℕ → ℕ → List ℕ → ℕ

@@ -3,7 +3,7 @@ use map::decode;
 use map::kinds;
 use state::gates;
 ghost use mathlib.Core.Path.{_≡_};
-ghost use mathlib.Core.Bool.{Bool, true, false, not};
+ghost use mathlib.Core.Bool.{true};
 ghost use mathlib.Core.List.{[], _∷_};
 ghost use Prim.Native.Nat.{_+_, _*_, _<_, _≤_};
 ghost use lib.ListN.{length, replicate};
@@ -24,18 +24,6 @@ fn clear(marks: &mut [u8])
     while i < n {
         marks[i] = 0;
         i += 1;
-    }
-}
-
-// 1 for a gate that is not justified, else 0.
-fn unjustified(map: &[u8], gates: usize, g: usize, s: &[u8]) -> u8
-    requires { ⌜ IsMap (now map) × ((gates ≡ gateCount (now map)) × ((g < gates) × (gates ≤ length (now s)))) ⌝ }
-    ensures { λ r. ⌜ (r ≡ byte (not (justified (circuit (now (map .entry))) (now (s .entry)) g))) × (r ≤ 1) ⌝ }
-{
-    if gates::justified(map, gates, g, s) {
-        0
-    } else {
-        1
     }
 }
 
@@ -75,13 +63,12 @@ fn mark_gate(map: &[u8], gates: usize, g: usize, s: &[u8], marks: &mut [u8]) -> 
     if marks[g] == 0 {
         return 0;
     }
-    let front = unjustified(map, gates, g, s);
-    marks[g] = 1 + 2 * front;
-    if front != 0 {
-        return 1;
+    if gates::justified(map, gates, g, s) {
+        mark_children(map, gates, g, s, marks);
+        return 0;
     }
-    mark_children(map, gates, g, s, marks);
-    0
+    marks[g] = 3;
+    1
 }
 
 // Marks, with the coded gates at 1, become the cone and the front of s. Returns the front's size.

@@ -53,8 +53,7 @@ unfolding bodiesTests firstFailed
 returns-4 c = rw (four (c .before .before .before .before .before .before), five (c .before .before .before .before), six (c .before .before), flag-false _ _ (c .if4 .taken) (c .before .codes-ok .ensures))
 
 free-ok-requires : tie.Need-free-ok-requires
-free-ok-requires c κs = let s = c .before .before .before .before .before .before .before .before .before in
-    (sound-of _ (placed (c .before .before .before .before)) (six (c .before .before)) (seven c), search needs)
+free-ok-requires c κs = ((sound-of _ (placed (c .before .before .before .before)) (six (c .before .before)) (seven c), search needs), search needs)
 
 returns-5 : tie.Need-returns-5
 unfolding bodiesTests firstFailed
