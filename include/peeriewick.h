@@ -1,11 +1,17 @@
-/* Peeriewick for C hosts: the calls of document 01, proved in Rattle. Link with libabi.a (`rt staticlib abi`).
+/* Peeriewick for C hosts: the calls of document 01, proved in Rattle.
+ *
+ * `./archives` makes a static library for each service level in target/staticlib; link with one of them:
+ *     libpeeriewick_state.a     check, children, evaluate, mark
+ *     libpeeriewick_survey.a    and survey
+ *     libpeeriewick_search.a    and move and run
  *
  * A lent buffer is a pointer and a length in elements; `NULL, 0` is an empty one. Buffers that a call writes must not overlap any other
- * buffer of that call. No call allocates, keeps anything between calls, or asks anything of the bytes it is given.
+ * buffer of that call. No call allocates, keeps anything between calls, or asks anything of the bytes it is given; calls may run at the same time on
+ * different buffers.
  *
  * Each call but peeriewick_children returns the number that declines it, or 0 (README has the table). Other numbers of the answer go into
  * `numbers`, in the order given below, as many as it has places for; `NULL, 0` where none is wanted. A declined call leaves every buffer
- * as it was, `numbers` too: read that only after a return of 0. An accepted one writes what is said below into the first bytes of a buffer,
+ * as it was, `numbers` too: read that only after a return of 0. An accepted one writes what is said below into the first elements of a buffer,
  * and leaves its surplus as it was. */
 #ifndef PEERIEWICK_H
 #define PEERIEWICK_H
@@ -17,35 +23,41 @@
 extern "C" {
 #endif
 
-/* Checks a map. Numbers: gates, inputs, children, codes. Declines with 1 to 8. */
+/* The most gates of a map, so that memories of this size are always long enough. */
+#define PEERIEWICK_GATES 1024
+
+/* Checks a map. Numbers (4): gates, inputs, children, codes. Declines with 1 to 8. */
 uint8_t peeriewick_check(const uint8_t *map, size_t map_len,
                          size_t *numbers, size_t numbers_len);
 
-/* Where in the map the children of a gate stand, two bytes each. It never declines. Numbers: the place of the first byte, the length in bytes. The
+/* Where in the map the children of a gate stand, two bytes each. It never declines. Numbers (2): the place of the first byte, the length in bytes. The
  * length is 0 for an input, a gate past the end or a map that check declines; the place is then 0 too, but for an input of an accepted map, where it
  * is the place at which its children would stand. */
 void peeriewick_children(const uint8_t *map, size_t map_len, size_t gate,
                          size_t *numbers, size_t numbers_len);
 
-/* Writes the value of every gate into `out`, for a row of one byte per input. Declines with 1 to 10 and 14. */
+/* Writes the value of every gate for a row. `row`: one byte 0 or 1 for each input, by gate number. `out`: room for a byte per gate, written. Declines with
+ * 1 to 10 and 14. */
 uint8_t peeriewick_evaluate(const uint8_t *map, size_t map_len,
                             const uint8_t *row, size_t row_len,
                             uint8_t *out, size_t out_len);
 
-/* Does the configuration obey every gate and show every code? Numbers: 1 for yes, 0 for no. Declines with 1 to 10. */
+/* Does the configuration obey every gate and show every code? `configuration`: a byte 0 or 1 for each gate. Numbers (1): 1 for yes, 0 for no. Declines
+ * with 1 to 10. */
 uint8_t peeriewick_mark(const uint8_t *map, size_t map_len,
                         const uint8_t *configuration, size_t configuration_len,
                         size_t *numbers, size_t numbers_len);
 
-/* Writes a byte per gate into `out`: 1 in the cone, plus 2 in the front, plus 4 interesting. Numbers: the sizes of front and interest
- * set. Declines with 1 to 11 and 14. */
+/* Writes where each gate stands in a search. `configuration`: a byte 0 or 1 for each gate, with the codes kept. `out`: room for a byte per gate, written: 1 in the
+ * cone, plus 2 in the front, plus 4 interesting. Numbers (2): the sizes of front and interest set. Declines with 1 to 11 and 14. */
 uint8_t peeriewick_survey(const uint8_t *map, size_t map_len,
                           const uint8_t *configuration, size_t configuration_len,
                           uint8_t *out, size_t out_len,
                           size_t *numbers, size_t numbers_len);
 
-/* Does one tape entry of 4 bytes on the configuration, and writes the survey of the new one into `work`. Numbers: the drawn gate, how many values
- * were turned. Declines with 1 to 15. */
+/* Does one tape entry. `configuration`: a byte 0 or 1 for each gate, with the codes kept; it becomes the new one. `entry`: 4 bytes: draw (two bytes, the lower
+ * first), kind (0 greedy, 1 down, 2 up), option. `work`: room for a byte per gate, written: the survey of the new configuration. Numbers (2): the drawn gate, how
+ * many values were turned (1 to 8). Declines with 1 to 15. */
 uint8_t peeriewick_move(const uint8_t *map, size_t map_len,
                         uint8_t *configuration, size_t configuration_len,
                         const uint8_t *entry, size_t entry_len,
@@ -53,9 +65,10 @@ uint8_t peeriewick_move(const uint8_t *map, size_t map_len,
                         size_t *numbers, size_t numbers_len);
 
 /* Does the tape's entries until the front is empty (Found) or the tape is used up (Spent). The front is tested before each entry and after the last:
- * an empty one is Found, on an empty tape too. The configuration is then the last one, `work` has its survey, and for Found `answer` a byte per
- * gate: a state that shows the codes; Spent leaves `answer` as it was. Numbers: 1 for Found and 0 for Spent, moves, flips, the front's size, which is
- * 0 for Found. Declines with 1 to 14. */
+ * an empty one is Found, on an empty tape too. `configuration`: as for move; it becomes the last one. `tape`: entries of 4 bytes, at most 65,532 bytes. `work`: room
+ * for a byte per gate, written: the survey of the last configuration. `answer`: room for a byte per gate; Found writes a state that shows the codes, Spent leaves
+ * it as it was. Numbers (4): 1 for Found and 0 for Spent, moves (at most 16,383), flips (at most 131,064), the front's size, which is 0 for Found.
+ * Declines with 1 to 14. */
 uint8_t peeriewick_run(const uint8_t *map, size_t map_len,
                        uint8_t *configuration, size_t configuration_len,
                        const uint8_t *tape, size_t tape_len,
