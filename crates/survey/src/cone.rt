@@ -3,7 +3,7 @@ use map::decode;
 use map::kinds;
 use state::gates;
 ghost use mathlib.Core.Path.{_≡_};
-ghost use mathlib.Core.Bool.{true};
+ghost use mathlib.Core.Bool.{true, cond};
 ghost use mathlib.Core.List.{[], _∷_};
 ghost use Prim.Native.Nat.{_+_, _*_, _<_, _≤_};
 ghost use lib.ListN.{length, replicate};
@@ -27,14 +27,19 @@ fn clear(marks: &mut [u8])
     }
 }
 
-// Child x of a justified gate of this kind and value comes into the cone if it is relevant.
+// The mark of a child that was b: 1 if it is relevant.
+fn child_mark(relevant: bool, b: u8) -> u8
+    ensures { λ r. ⌜ r ≡ cond relevant 1 b ⌝ }
+{
+    if relevant { 1 } else { b }
+}
+
+// Child x of a justified gate of this kind and value comes into the cone if it is relevant. The mark is written in any case: a jump here would often be foretold wrongly.
 fn mark_child(kind: u8, v: bool, x: usize, s: &[u8], marks: &mut [u8])
     requires { ⌜ (x < length (now s)) × (x < length (now marks)) ⌝ }
     ensures { λ _. ⌜ now (marks .exit) ≡ paint toOne (select (λ y. relevant (kindOf kind) v (on (now (s .entry)) y)) (x ∷ [])) (now (marks .entry)) ⌝ }
 {
-    if kinds::relevant(kind, v, s[x] == 1) {
-        marks[x] = 1;
-    }
+    marks[x] = child_mark(kinds::relevant(kind, v, s[x] == 1), marks[x]);
 }
 
 // The relevant children of a justified gate come into the cone.

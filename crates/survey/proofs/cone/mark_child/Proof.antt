@@ -1,26 +1,36 @@
+use Prim.Native.Nat.{ℕ}
 use denote.Ref.{now}
-use mathlib.Core.Path.{_≡_, sym, _∙_}
+use mathlib.Core.Path.{_≡_}
+use mathlib.Core.Logic.{inl, inr}
+use mathlib.Core.Bool.{Bool, cond}
+use mathlib.Core.List.{List, [], _∷_}
+use lib.ListN.{getD, set}
+use lib.Seq.{set-getD}
+use Rattle.folds.proofs.Tests.{which}
+use Rattle.circuit.specs.Tools.{select}
 use Rattle.circuit.specs.Gate.{kindOf, relevant}
 use Rattle.circuit.specs.Circuit.{on}
-use Rattle.survey.specs.Marks.{paint}
+use Rattle.survey.specs.Marks.{paint, toOne}
 use borrow.Author.Needs.{needs}
 use Rattle.survey.proofs.cone.mark_child.Statement.{statement}
 use Rattle.survey.proofs.cone.mark_child.Tie as tie
 use Rattle.survey.proofs.cone.mark_child.Reads as reads
 use Rattle.survey.proofs.cone.mark_child.Lts as lts
 use Rattle.map.proofs.kinds.relevant.Reads as relevant-reads
+use Rattle.survey.proofs.cone.child_mark.Reads as child-mark-reads
 
--- what the call told
-is-relevant : (c : tie.After-relevant) → relevant (kindOf (c .before .before .before .before .args .kind)) (c .before .before .before .before .args .v) (on (now (c .before .before .before .before .args .s)) (c .before .before .before .before .args .x)) ≡ c .relevant .result
-is-relevant c = sym (c .relevant .ensures)
+-- a mark written anew is painted or stays
+paint-one : (p : ℕ → Bool) (x : ℕ) (w : List ℕ) → set w x (cond (p x) 1 (getD w x 0)) ≡ paint toOne (select p (x ∷ [])) w
+unfolding paint
+paint-one p x w = elim (which (p x)) [
+  | inl q ↦ rw q
+  | inr q ↦ rw q (set-getD w x 0)
+]
 
 returns : tie.Need-returns
-unfolding paint
-returns c = rw (is-relevant (c .before) ∙ c .if1 .taken)
-
-returns-2 : tie.Need-returns-2
-unfolding paint
-returns-2 c = rw (is-relevant (c .before) ∙ c .if1 .left)
+returns c = let a = c .before .before .before .before .before .before .args in
+    rw (c .child-mark .ensures, c .before .before .relevant .ensures)
+    (paint-one (λ y. relevant (kindOf (a .kind)) (a .v) (on (now (a .s)) y)) (a .x) (now (a .marks)))
 
 pub mark-child-spec : {M : Type 1} → statement M
 mark-child-spec =
@@ -29,6 +39,7 @@ mark-child-spec =
     (λ c. search needs)
     (λ c κs. search needs)
     (λ c. search needs)
+    (λ c κs. search needs)
     (λ c. search needs)
-    returns
-    returns-2)
+    (λ c. search needs)
+    returns)
