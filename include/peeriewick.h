@@ -5,9 +5,12 @@
  *     libpeeriewick_survey.a    and survey
  *     libpeeriewick_search.a    and move and run
  *
+ * docs/FORMAT.md has the bytes of maps, rows, configurations, tapes and surveys. Two-byte numbers have the lower byte first.
+ *
  * A lent buffer is a pointer and a length in elements; `NULL, 0` is an empty one. Buffers that a call writes must not overlap any other
- * buffer of that call. No call allocates, keeps anything between calls, or asks anything of the bytes it is given; calls may run at the same time on
- * different buffers.
+ * buffer of that call. Any bytes may be given, and output, work, answer and `numbers` may hold anything before a call. No call allocates or keeps anything
+ * between calls: calls may run at the same time, on the same map too, as long as none writes what another reads or writes. A call takes some 5 KiB of
+ * stack, and of the C library memset alone.
  *
  * Each call but peeriewick_children returns the number that declines it, or 0 (README has the table). Other numbers of the answer go into
  * `numbers`, in the order given below, as many as it has places for; `NULL, 0` where none is wanted. A declined call leaves every buffer
@@ -23,7 +26,7 @@
 extern "C" {
 #endif
 
-/* The most gates of a map, so that memories of this size are always long enough. */
+/* The most gates of a map: output, work and answer memory of this size is always long enough. (A row or configuration has exactly its length.) */
 #define PEERIEWICK_GATES 1024
 
 /* Checks a map. Numbers (4): gates, inputs, children, codes. Declines with 1 to 8. */
@@ -36,26 +39,26 @@ uint8_t peeriewick_check(const uint8_t *map, size_t map_len,
 void peeriewick_children(const uint8_t *map, size_t map_len, size_t gate,
                          size_t *numbers, size_t numbers_len);
 
-/* Writes the value of every gate for a row. `row`: one byte 0 or 1 for each input, by gate number. `out`: room for a byte per gate, written. Declines with
+/* Writes the value of every gate for a row. `row`: exactly one byte 0 or 1 for each input, by gate number. `out`: room for a byte per gate, written. Declines with
  * 1 to 10 and 14. */
 uint8_t peeriewick_evaluate(const uint8_t *map, size_t map_len,
                             const uint8_t *row, size_t row_len,
                             uint8_t *out, size_t out_len);
 
-/* Does the configuration obey every gate and show every code? `configuration`: a byte 0 or 1 for each gate. Numbers (1): 1 for yes, 0 for no. Declines
+/* Does the configuration obey every gate and show every code? `configuration`: exactly a byte 0 or 1 for each gate. Numbers (1): 1 for yes, 0 for no. Declines
  * with 1 to 10. */
 uint8_t peeriewick_mark(const uint8_t *map, size_t map_len,
                         const uint8_t *configuration, size_t configuration_len,
                         size_t *numbers, size_t numbers_len);
 
-/* Writes where each gate stands in a search. `configuration`: a byte 0 or 1 for each gate, with the codes kept. `out`: room for a byte per gate, written: 1 in the
+/* Writes where each gate stands in a search. `configuration`: exactly a byte 0 or 1 for each gate, with the codes kept. `out`: room for a byte per gate, written: 1 in the
  * cone, plus 2 in the front, plus 4 interesting. Numbers (2): the sizes of front and interest set. Declines with 1 to 11 and 14. */
 uint8_t peeriewick_survey(const uint8_t *map, size_t map_len,
                           const uint8_t *configuration, size_t configuration_len,
                           uint8_t *out, size_t out_len,
                           size_t *numbers, size_t numbers_len);
 
-/* Does one tape entry. `configuration`: a byte 0 or 1 for each gate, with the codes kept; it becomes the new one. `entry`: 4 bytes: draw (two bytes, the lower
+/* Does one tape entry. `configuration`: exactly a byte 0 or 1 for each gate, with the codes kept; it becomes the new one. `entry`: 4 bytes: draw (two bytes, the lower
  * first), kind (0 greedy, 1 down, 2 up), option. `work`: room for a byte per gate, written: the survey of the new configuration. Numbers (2): the drawn gate, how
  * many values were turned (1 to 8). Declines with 1 to 15. */
 uint8_t peeriewick_move(const uint8_t *map, size_t map_len,
@@ -66,8 +69,8 @@ uint8_t peeriewick_move(const uint8_t *map, size_t map_len,
 
 /* Does the tape's entries until the front is empty (Found) or the tape is used up (Spent). The front is tested before each entry and after the last:
  * an empty one is Found, on an empty tape too. `configuration`: as for move; it becomes the last one. `tape`: entries of 4 bytes, at most 65,532 bytes. `work`: room
- * for a byte per gate, written: the survey of the last configuration. `answer`: room for a byte per gate; Found writes a state that shows the codes, Spent leaves
- * it as it was. Numbers (4): 1 for Found and 0 for Spent, moves (at most 16,383), flips (at most 131,064), the front's size, which is 0 for Found.
+ * for a byte per gate, written: the survey of the last configuration. `answer`: room for a byte per gate; Found writes the values of all gates in a state that shows the codes (the
+ * state itself is the bytes at the inputs), Spent leaves it as it was. Numbers (4): 1 for Found and 0 for Spent, moves (at most 16,383), flips (at most 131,064), the front's size, which is 0 for Found.
  * Declines with 1 to 14. */
 uint8_t peeriewick_run(const uint8_t *map, size_t map_len,
                        uint8_t *configuration, size_t configuration_len,

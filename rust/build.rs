@@ -12,9 +12,11 @@ fn main() {
     } else {
         "peeriewick_state"
     };
+    // a relative folder is one from here, the package's; the linker runs elsewhere
+    let package = PathBuf::from(env::var_os("CARGO_MANIFEST_DIR").expect("cargo sets it"));
     let folder = match env::var_os("PEERIEWICK_ARCHIVES") {
-        Some(folder) => PathBuf::from(folder),
-        None => PathBuf::from(env::var_os("CARGO_MANIFEST_DIR").expect("cargo sets it")).join("../target/staticlib"),
+        Some(folder) if !folder.is_empty() => package.join(folder),
+        _ => package.join("../target/staticlib"),
     };
     let archive = folder.join(format!("lib{name}.a"));
     println!("cargo:rerun-if-env-changed=PEERIEWICK_ARCHIVES");

@@ -2,19 +2,21 @@
 //!
 //! Any bytes may be given to any call. A call that is refused gives [`Refused`] with its number and leaves every slice as it was; an accepted
 //! one writes into the first bytes of a slice and leaves its surplus. Nothing allocates or keeps anything between calls. What a C host must see
-//! to itself, good pointers and buffers that don't overlap, slices and borrows have by themselves.
+//! to itself, good pointers and buffers that don't overlap, slices and borrows have by themselves. A row or configuration has exactly its length; output, work
+//! and answer memory may be longer than needed and hold anything.
 
 pub mod raw;
 
 use std::fmt;
 
 /// The number of the first test that fails, as document 01 lists them.
-#[derive(Debug, Clone, Copy, PartialEq, Eq, Hash)]
+#[derive(Clone, Copy, PartialEq, Eq, Hash)]
 pub struct Refused(pub u8);
 
-impl fmt::Display for Refused {
-    fn fmt(&self, f: &mut fmt::Formatter<'_>) -> fmt::Result {
-        let what = match self.0 {
+impl Refused {
+    /// What is wrong, in words.
+    pub fn reason(self) -> &'static str {
+        match self.0 {
             1 => "the map is shorter than 12 bytes",
             2 => "the map has no gate or more than 1,024",
             3 => "an offset or the map's length isn't what the counts give",
@@ -31,17 +33,29 @@ impl fmt::Display for Refused {
             14 => "output, work or answer memory is shorter than the gate count",
             15 => "the front is empty",
             _ => "no number of document 01",
-        };
-        write!(f, "refused with {}: {}", self.0, what)
+        }
+    }
+}
+
+impl fmt::Display for Refused {
+    fn fmt(&self, f: &mut fmt::Formatter<'_>) -> fmt::Result {
+        write!(f, "refused with {}: {}", self.0, self.reason())
+    }
+}
+
+/// With its words too: it is what a `main` that ends with it prints.
+impl fmt::Debug for Refused {
+    fn fmt(&self, f: &mut fmt::Formatter<'_>) -> fmt::Result {
+        write!(f, "Refused({}: {})", self.0, self.reason())
     }
 }
 
 impl std::error::Error for Refused {}
 
-/// What a call's number means for its answer.
-fn answer<T>(number: u8, accepted: T) -> Result<T, Refused> {
+/// The result of a call that returned this number: 0 is none.
+fn result<T>(number: u8, answer: T) -> Result<T, Refused> {
     match number {
-        0 => Ok(accepted),
+        0 => Ok(answer),
         _ => Err(Refused(number)),
     }
 }
@@ -60,7 +74,7 @@ pub fn check(map: &[u8]) -> Result<Counts, Refused> {
     let mut n = [0usize; 4];
     let number = unsafe { raw::peeriewick_check(map.as_ptr(), map.len(), n.as_mut_ptr(), n.len()) };
     let [gates, inputs, children, codes] = n;
-    answer(number, Counts { gates, inputs, children, codes })
+    result(number, Counts { gates, inputs, children, codes })
 }
 
 /// The part of the map that holds the children of a gate, two bytes each: no copy. Empty for an input, a gate past the end or a map that [`check`]
@@ -77,7 +91,7 @@ pub fn evaluate(map: &[u8], row: &[u8], out: &mut [u8]) -> Result<(), Refused> {
     let number = unsafe {
         raw::peeriewick_evaluate(map.as_ptr(), map.len(), row.as_ptr(), row.len(), out.as_mut_ptr(), out.len())
     };
-    answer(number, ())
+    result(number, ())
 }
 
 /// Does the configuration obey every gate and show every code? Declines with 1 to 10.
@@ -93,7 +107,7 @@ pub fn mark(map: &[u8], configuration: &[u8]) -> Result<bool, Refused> {
             n.len(),
         )
     };
-    answer(number, n[0] == 1)
+    result(number, n[0] == 1)
 }
 
 /// The sizes of front and interest set.
@@ -121,7 +135,7 @@ pub fn survey(map: &[u8], configuration: &[u8], out: &mut [u8]) -> Result<Sizes,
         )
     };
     let [front, interest] = n;
-    answer(number, Sizes { front, interest })
+    result(number, Sizes { front, interest })
 }
 
 /// The gate that an entry drew, and how many values it turned.
@@ -152,7 +166,7 @@ pub fn make_move(map: &[u8], configuration: &mut [u8], entry: &[u8], work: &mut 
         )
     };
     let [gate, turned] = n;
-    answer(number, Turn { gate, turned })
+    result(number, Turn { gate, turned })
 }
 
 /// How a run that is not declined ends.
@@ -182,7 +196,7 @@ pub fn run(
     configuration: &mut [u8],
     tape: &[u8],
     work: &mut [u8],
-    answer_memory: &mut [u8],
+    answer: &mut [u8],
 ) -> Result<Outcome, Refused> {
     let mut n = [0usize; 4];
     let number = unsafe {
@@ -195,13 +209,13 @@ pub fn run(
             tape.len(),
             work.as_mut_ptr(),
             work.len(),
-            answer_memory.as_mut_ptr(),
-            answer_memory.len(),
+            answer.as_mut_ptr(),
+            answer.len(),
             n.as_mut_ptr(),
             n.len(),
         )
     };
     let [found, moves, flips, front] = n;
     let ending = if found == 1 { Ending::Found } else { Ending::Spent(front) };
-    answer(number, Outcome { ending, moves, flips })
+    result(number, Outcome { ending, moves, flips })
 }

@@ -12,16 +12,16 @@ ghost use Rattle.abi_search.specs.Numbers.{moveNumbers, runNumbers};
 pub extern "C" fn peeriewick_move(
     map: &[u8],
     configuration: &mut [u8],
-    tape: &[u8],
+    entry: &[u8],
     work: &mut [u8],
     numbers: &mut [usize],
 ) -> u8
-    ensures { λ r. ⌜ r ≡ moving (now (map .entry)) (now (configuration .entry)) (now (tape .entry)) (now (work .entry)) .number ⌝ }
-    ensures { λ _. ⌜ now (configuration .exit) ≡ moving (now (map .entry)) (now (configuration .entry)) (now (tape .entry)) (now (work .entry)) .configuration ⌝ }
-    ensures { λ _. ⌜ now (work .exit) ≡ moving (now (map .entry)) (now (configuration .entry)) (now (tape .entry)) (now (work .entry)) .work ⌝ }
-    ensures { λ _. ⌜ now (numbers .exit) ≡ moveNumbers (moving (now (map .entry)) (now (configuration .entry)) (now (tape .entry)) (now (work .entry))) (now (numbers .entry)) ⌝ }
+    ensures { λ r. ⌜ r ≡ moving (now (map .entry)) (now (configuration .entry)) (now (entry .entry)) (now (work .entry)) .number ⌝ }
+    ensures { λ _. ⌜ now (configuration .exit) ≡ moving (now (map .entry)) (now (configuration .entry)) (now (entry .entry)) (now (work .entry)) .configuration ⌝ }
+    ensures { λ _. ⌜ now (work .exit) ≡ moving (now (map .entry)) (now (configuration .entry)) (now (entry .entry)) (now (work .entry)) .work ⌝ }
+    ensures { λ _. ⌜ now (numbers .exit) ≡ moveNumbers (moving (now (map .entry)) (now (configuration .entry)) (now (entry .entry)) (now (work .entry))) (now (numbers .entry)) ⌝ }
 {
-    match search::make_move(map, configuration, tape, work) {
+    match search::make_move(map, configuration, entry, work) {
         Moved::Refused(k) => k,
         Moved::Done(t) => place::two(numbers, t.gate, t.turned as usize),
     }

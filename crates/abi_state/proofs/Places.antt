@@ -1,10 +1,10 @@
 -- Numbers in lent places, put one by one. Assumes nothing.
-use Prim.Native.Nat.{ℕ, zero, suc, _≤_}
+use Prim.Native.Nat.{ℕ, zero, suc, _<_, _≤_}
 use mathlib.Core.Path.{_≡_, refl, ap}
 use mathlib.Core.List.{List, [], _∷_}
 use native.Mathlib.Omega.{arith}
-use lib.ListN.{length, set}
-use Rattle.abi_state.specs.Numbers.{placed}
+use lib.ListN.{length, getD, set}
+use Rattle.abi_state.specs.Numbers.{placed, Places, PlacedIs}
 
 -- past the end nothing is set
 pub set-past : (ns : List ℕ) (i x : ℕ) → length ns ≤ i → ns ≡ set ns i x
@@ -30,3 +30,28 @@ placed-four (n ∷ []) a b c d = refl
 placed-four (n ∷ m ∷ []) a b c d = refl
 placed-four (n ∷ m ∷ k ∷ []) a b c d = refl
 placed-four (n ∷ m ∷ k ∷ j ∷ ns) a b c d = refl
+
+-- ---- what it means
+
+places-kept : (xs ns : List ℕ) → length (placed xs ns) ≡ length ns
+unfolding placed
+places-kept [] ns = refl
+places-kept (x ∷ xs) [] = refl
+places-kept (x ∷ xs) (n ∷ ns) = ap suc (places-kept xs ns)
+
+in-first : (xs ns : List ℕ) (i : ℕ) → i < length xs → i < length ns → getD (placed xs ns) i 0 ≡ getD xs i 0
+unfolding placed
+in-first [] ns i l h = absurd (omega arith)
+in-first (x ∷ xs) [] i l h = absurd (omega arith)
+in-first (x ∷ xs) (n ∷ ns) zero l h = refl
+in-first (x ∷ xs) (n ∷ ns) (suc i) l h = in-first xs ns i (omega arith) (omega arith)
+
+in-others : (xs ns : List ℕ) (i : ℕ) → length xs ≤ i → getD (placed xs ns) i 0 ≡ getD ns i 0
+unfolding placed
+in-others [] ns i l = refl
+in-others (x ∷ xs) [] i l = refl
+in-others (x ∷ xs) (n ∷ ns) zero l = absurd (omega arith)
+in-others (x ∷ xs) (n ∷ ns) (suc i) l = in-others xs ns i (omega arith)
+
+pub placed-is : PlacedIs
+placed-is xs ns = record { as-many = places-kept xs ns; first = in-first xs ns; others = in-others xs ns }

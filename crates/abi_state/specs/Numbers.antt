@@ -1,8 +1,10 @@
 -- Document 01's calls for hosts in C and Rust. What they return and leave is said by the same definitions as the calls' own; here stands only where the
 -- numbers of an answer go. Assumes nothing.
-use Prim.Native.Nat.{ℕ}
+use Prim.Native.Nat.{ℕ, _<_, _≤_}
+use mathlib.Core.Path.{_≡_}
 use mathlib.Core.Bool.{Bool, cond}
 use mathlib.Core.List.{List, [], _∷_}
+use lib.ListN.{length, getD}
 use Rattle.circuit.specs.Tools.{byte}
 use Rattle.map.specs.Check.{Said}
 use Rattle.map.specs.Children.{stretchAt, stretchLength}
@@ -29,3 +31,12 @@ childrenNumbers m g = placed (stretchAt m g ∷ stretchLength m g ∷ [])
 -- Mark: 1 for yes, 0 for no
 abbrev pub markNumbers : Marking → List ℕ → List ℕ
 markNumbers r = numbered (r .accepted) (byte (r .yes) ∷ [])
+
+-- What `placed` leaves: as many places as before, the numbers in the first of them in their order, and the other places as they were.
+pub record Places (xs ns : List ℕ) : Type 0 where
+  pub as-many : length (placed xs ns) ≡ length ns
+  pub first : (i : ℕ) → i < length xs → i < length ns → getD (placed xs ns) i 0 ≡ getD xs i 0
+  pub others : (i : ℕ) → length xs ≤ i → getD (placed xs ns) i 0 ≡ getD ns i 0
+
+abbrev pub PlacedIs : Type 0
+PlacedIs = (xs ns : List ℕ) → Places xs ns

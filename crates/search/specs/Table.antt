@@ -1,6 +1,6 @@
 -- Document 01's examples P1 to P12 as one table, on bytes, about the definitions that the contracts cite, with more examples of Run on which wrong
 -- programs show. antt computes them. Assumes nothing.
-use Prim.Native.Nat.{ℕ, _+_}
+use Prim.Native.Nat.{ℕ}
 use mathlib.Core.Path.{_≡_}
 use mathlib.Core.Bool.{true, false}
 use mathlib.Core.List.{List, [], _∷_, _++_}

@@ -11,7 +11,7 @@ use Rattle.state.specs.State.{bitsTest, rowTests, configurationTests, ev
 use Rattle.state.specs.Bench.{Examples}
 
 -- every definition that the examples compute with, under one name
-opened : ℕ
+unfoldable pub opened : ℕ
 unfolding _and_ _or_ allBelow justified inputsBefore rowOf values evaluate mark u16At fanInsBefore codeAmong kidsOf offsetsTest kindFits kindTest positionTest positionsTest childTest childrenTest codeTest freeTest firstFailed contentsTests bodiesTests mapTests adderBytes bitsTest rowTests configurationTests evaluationBy evaluation markingBy marking
 opened = 0
 

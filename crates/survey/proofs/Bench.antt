@@ -12,7 +12,7 @@ use Rattle.survey.specs.Survey.{codesTest, startTests, surveyTests, surv
 use Rattle.survey.specs.Bench.{clashBytes, nandBytes, uncodedBytes, Examples}
 
 -- every definition that the examples compute with, under one name
-opened : ℕ
+unfoldable pub opened : ℕ
 unfolding _and_ _or_ allBelow descend justified spread reasons cone inFront front interest survey frontSize interestSize u16At fanInsBefore codeAmong kidsOf offsetsTest kindFits kindTest positionTest positionsTest childTest childrenTest codeTest freeTest firstFailed contentsTests bodiesTests mapTests adderBytes gapBytes twoCodesBytes bitsTest configurationTests codesTest startTests surveyTests surveyingBy surveying clashBytes nandBytes uncodedBytes
 opened = 0
 
