@@ -2,9 +2,8 @@
 //! and the program, written straight from document 01 and from nothing else.
 //!
 //! It is slow and plain on purpose. Every offset, count and length is a whole
-//! number (u64) that cannot wrap for any map of up to 65,535 bytes, and every
-//! numbered test is a function of its own that runs over all it concerns
-//! before the next one is asked.
+//! number (u64) that cannot wrap, and every numbered test is a function of its
+//! own that runs over all it concerns before the next one is asked.
 
 /// "Kinds: 0 input, 1 NOT, 2 AND, 3 OR, 4 XOR."
 pub const INPUT: u8 = 0;
@@ -282,46 +281,67 @@ pub fn check(map: &[u8]) -> Result<Counts, u8> {
 
 /// "**Children** hands back the stretch of the lent map that holds a gate's
 /// children, no copy; it is empty for an input, a gate number past the end or
-/// a map that Check declines, and Children gives no number."
-pub fn children(map: &[u8], gate: u16) -> &[u8] {
+/// a map that Check declines, and Children gives no number." An empty stretch
+/// lies, as the header says, where an input's children would stand, and else at
+/// the map's start.
+pub fn children(map: &[u8], gate: usize) -> &[u8] {
     if check(map).is_err() {
-        return &[];
+        return &map[..0];
     }
     let c = contents(map);
     if gate as u64 >= c.gates {
-        return &[];
+        return &map[..0];
     }
-    let record = &gate_records(map)[gate as usize];
+    let record = &gate_records(map)[gate];
     let from = c.children_at + 2 * record.first;
     let to = from + 2 * record.fan_in;
     &map[from as usize..to as usize]
 }
 
-/// "NOT, AND, OR and XOR mean what 001 says." Read here in their usual sense:
-/// NOT is 1 iff its child is 0, AND iff all children are 1, OR iff some child
-/// is 1, XOR iff its two children differ.
-fn given(kind: u8, values: &[u8]) -> u8 {
-    let yes = match kind {
-        NOT => values[0] == 0,
-        AND => values.iter().all(|v| *v == 1),
-        OR => values.iter().any(|v| *v == 1),
-        XOR => values[0] != values[1],
-        _ => panic!("an input's children give nothing"),
-    };
-    if yes {
-        1
-    } else {
-        0
-    }
+/// A gate of an accepted map: its kind and the numbers of its children.
+struct Gate {
+    kind: u8,
+    children: Vec<usize>,
 }
 
-/// The values that a gate's children have in `values`, in child order.
-fn child_values_of(gate: &GateRecord, all_children: &[u64], values: &[u8]) -> Vec<u8> {
-    let mut list = Vec::new();
-    for place in gate.first..gate.first + gate.fan_in {
-        list.push(values[all_children[place as usize] as usize]);
+/// An accepted map, read once: its gates, and its codes as gate and value.
+struct Circuit {
+    gates: Vec<Gate>,
+    codes: Vec<(usize, u8)>,
+}
+
+/// Only asked for maps that Check accepts.
+fn circuit_of(map: &[u8]) -> Circuit {
+    let all = child_records(map);
+    let mut gates = Vec::new();
+    for record in gate_records(map) {
+        let mut children = Vec::new();
+        for place in record.first..record.first + record.fan_in {
+            children.push(all[place as usize] as usize);
+        }
+        gates.push(Gate { kind: record.kind, children });
     }
-    list
+    let mut codes = Vec::new();
+    for code in code_records(map) {
+        codes.push((code.gate as usize, code.value));
+    }
+    Circuit { gates, codes }
+}
+
+/// "NOT, AND, OR and XOR mean what 001 says." Read here in their usual sense:
+/// NOT is 1 iff its child is 0, AND iff all children are 1, OR iff some child
+/// is 1, XOR iff its two children differ. The value that the children give a
+/// gate that isn't an input.
+fn given(gate: &Gate, values: &[u8]) -> u8 {
+    let mut children = gate.children.iter().map(|child| values[*child]);
+    let yes = match gate.kind {
+        NOT => children.next() == Some(0),
+        AND => children.all(|value| value == 1),
+        OR => children.any(|value| value == 1),
+        XOR => children.next() != children.next(),
+        _ => panic!("an input's children give nothing"),
+    };
+    yes as u8
 }
 
 /// "10. It has a byte above 1."
@@ -329,9 +349,24 @@ fn fails_10(bytes: &[u8]) -> bool {
     bytes.iter().any(|b| *b > 1)
 }
 
-/// "**Evaluate** takes a row and writes the value of every gate." with "A row
-/// is one byte 0 or 1 for each input, by gate number."; "9. The row or
-/// configuration has the wrong length.", "10. It has a byte above 1.", "14.
+/// "A row is one byte 0 or 1 for each input, by gate number." and "NOT, AND, OR
+/// and XOR mean what 001 says." The value of every gate.
+fn values_for(circuit: &Circuit, row: &[u8]) -> Vec<u8> {
+    let mut values = Vec::new();
+    let mut inputs_seen = 0;
+    for gate in &circuit.gates {
+        if gate.kind == INPUT {
+            values.push(row[inputs_seen]);
+            inputs_seen += 1;
+        } else {
+            values.push(given(gate, &values));
+        }
+    }
+    values
+}
+
+/// "**Evaluate** takes a row and writes the value of every gate."; "9. The row
+/// or configuration has the wrong length.", "10. It has a byte above 1.", "14.
 /// Output, work or answer memory is shorter than the gate count."; a declined
 /// call "leaves all lent memory untouched", and of longer memory "the surplus
 /// is never touched."
@@ -346,19 +381,7 @@ pub fn evaluate(map: &[u8], row: &[u8], output: &mut [u8]) -> Result<(), u8> {
     if (output.len() as u64) < counts.gates {
         return Err(14);
     }
-    let all_children = child_records(map);
-    let mut values: Vec<u8> = Vec::new();
-    let mut inputs_seen = 0;
-    for gate in gate_records(map) {
-        if gate.kind == INPUT {
-            values.push(row[inputs_seen]);
-            inputs_seen += 1;
-        } else {
-            let below = child_values_of(&gate, &all_children, &values);
-            values.push(given(gate.kind, &below));
-        }
-    }
-    for (place, value) in values.iter().enumerate() {
+    for (place, value) in values_for(&circuit_of(map), row).iter().enumerate() {
         output[place] = *value;
     }
     Ok(())
@@ -378,17 +401,14 @@ pub fn mark(map: &[u8], configuration: &[u8]) -> Result<bool, u8> {
     if fails_10(configuration) {
         return Err(10);
     }
-    let all_children = child_records(map);
-    for (number, gate) in gate_records(map).iter().enumerate() {
-        if gate.kind != INPUT {
-            let below = child_values_of(gate, &all_children, configuration);
-            if configuration[number] != given(gate.kind, &below) {
-                return Ok(false);
-            }
+    let circuit = circuit_of(map);
+    for (number, gate) in circuit.gates.iter().enumerate() {
+        if gate.kind != INPUT && configuration[number] != given(gate, configuration) {
+            return Ok(false);
         }
     }
-    for code in code_records(map) {
-        if configuration[code.gate as usize] != code.value {
+    for (gate, value) in circuit.codes {
+        if configuration[gate] != value {
             return Ok(false);
         }
     }
@@ -422,27 +442,16 @@ fn tests_1_to_11(map: &[u8], configuration: &[u8]) -> Result<Counts, u8> {
 }
 
 /// "A gate is justified if it is an input or its children give its value."
-fn justified(gate: &GateRecord, value: u8, all_children: &[u64], configuration: &[u8]) -> bool {
-    if gate.kind == INPUT {
-        return true;
-    }
-    given(gate.kind, &child_values_of(gate, all_children, configuration)) == value
+fn justified(circuit: &Circuit, configuration: &[u8], number: usize) -> bool {
+    let gate = &circuit.gates[number];
+    gate.kind == INPUT || given(gate, configuration) == configuration[number]
 }
 
-/// The numbers of a gate's children, in order.
-fn children_of(gate: &GateRecord, all_children: &[u64]) -> Vec<u64> {
+/// Those of a gate's children that are at `value`.
+fn children_at(value: u8, gate: &Gate, configuration: &[u8]) -> Vec<usize> {
     let mut list = Vec::new();
-    for place in gate.first..gate.first + gate.fan_in {
-        list.push(all_children[place as usize]);
-    }
-    list
-}
-
-/// Those of the children that are at `value`.
-fn children_at(value: u8, children: &[u64], configuration: &[u8]) -> Vec<u64> {
-    let mut list = Vec::new();
-    for child in children {
-        if configuration[*child as usize] == value {
+    for child in &gate.children {
+        if configuration[*child] == value {
             list.push(*child);
         }
     }
@@ -453,13 +462,13 @@ fn children_at(value: u8, children: &[u64], configuration: &[u8]) -> Vec<u64> {
 /// configuration are: AND at 1 and OR at 0, all children; AND at 0, each child
 /// at 0; OR at 1, each child at 1; NOT, its child; XOR, both." An input has
 /// none. Only asked for justified gates.
-fn parts(gate: &GateRecord, value: u8, all_children: &[u64], configuration: &[u8]) -> Vec<u64> {
-    let children = children_of(gate, all_children);
-    match (gate.kind, value) {
-        (AND, 1) | (OR, 0) => children,
-        (AND, 0) => children_at(0, &children, configuration),
-        (OR, 1) => children_at(1, &children, configuration),
-        (NOT, _) | (XOR, _) => children,
+fn parts(circuit: &Circuit, configuration: &[u8], number: usize) -> Vec<usize> {
+    let gate = &circuit.gates[number];
+    match (gate.kind, configuration[number]) {
+        (AND, 1) | (OR, 0) => gate.children.clone(),
+        (AND, 0) => children_at(0, gate, configuration),
+        (OR, 1) => children_at(1, gate, configuration),
+        (NOT, _) | (XOR, _) => gate.children.clone(),
         _ => Vec::new(),
     }
 }
@@ -468,24 +477,21 @@ fn parts(gate: &GateRecord, value: u8, all_children: &[u64], configuration: &[u8
 /// justified gate in it, these children." One yes or no for each gate. Gates
 /// are taken in only where the set must have them, until nothing changes; each
 /// round begins at the last gate, which is quicker and changes nothing else.
-fn cone_of(map: &[u8], configuration: &[u8]) -> Vec<bool> {
-    let gates = gate_records(map);
-    let all_children = child_records(map);
-    let mut cone = vec![false; gates.len()];
-    for code in code_records(map) {
-        cone[code.gate as usize] = true;
+fn cone_of(circuit: &Circuit, configuration: &[u8]) -> Vec<bool> {
+    let mut cone = vec![false; circuit.gates.len()];
+    for (gate, _) in &circuit.codes {
+        cone[*gate] = true;
     }
     let mut changed = true;
     while changed {
         changed = false;
-        for (number, gate) in gates.iter().enumerate().rev() {
-            let value = configuration[number];
-            if !cone[number] || !justified(gate, value, &all_children, configuration) {
+        for number in (0..cone.len()).rev() {
+            if !cone[number] || !justified(circuit, configuration, number) {
                 continue;
             }
-            for child in parts(gate, value, &all_children, configuration) {
-                if !cone[child as usize] {
-                    cone[child as usize] = true;
+            for child in parts(circuit, configuration, number) {
+                if !cone[child] {
+                    cone[child] = true;
                     changed = true;
                 }
             }
@@ -495,28 +501,24 @@ fn cone_of(map: &[u8], configuration: &[u8]) -> Vec<bool> {
 }
 
 /// "The front is the cone's unjustified gates."
-fn front_of(map: &[u8], configuration: &[u8], cone: &[bool]) -> Vec<bool> {
-    let all_children = child_records(map);
+fn front_of(circuit: &Circuit, configuration: &[u8], cone: &[bool]) -> Vec<bool> {
     let mut front = Vec::new();
-    for (number, gate) in gate_records(map).iter().enumerate() {
-        let value = configuration[number];
-        front.push(cone[number] && !justified(gate, value, &all_children, configuration));
+    for number in 0..cone.len() {
+        front.push(cone[number] && !justified(circuit, configuration, number));
     }
     front
 }
 
 /// "Interesting gates are the front and all descendants of its gates (their
 /// children, those gates' children and so on); NOT gates count like others".
-fn interest_of(map: &[u8], front: &[bool]) -> Vec<bool> {
-    let gates = gate_records(map);
-    let all_children = child_records(map);
+fn interest_of(circuit: &Circuit, front: &[bool]) -> Vec<bool> {
     let mut interest = front.to_vec();
-    let mut waiting: Vec<usize> = (0..gates.len()).filter(|g| front[*g]).collect();
+    let mut waiting = listed(front);
     while let Some(number) = waiting.pop() {
-        for child in children_of(&gates[number], &all_children) {
-            if !interest[child as usize] {
-                interest[child as usize] = true;
-                waiting.push(child as usize);
+        for child in &circuit.gates[number].children {
+            if !interest[*child] {
+                interest[*child] = true;
+                waiting.push(*child);
             }
         }
     }
@@ -529,10 +531,10 @@ fn size_of(set: &[bool]) -> u64 {
 }
 
 /// What Survey does once it is accepted: the bytes written, the sizes returned.
-fn write_survey(map: &[u8], configuration: &[u8], output: &mut [u8]) -> (u64, u64) {
-    let cone = cone_of(map, configuration);
-    let front = front_of(map, configuration, &cone);
-    let interest = interest_of(map, &front);
+fn write_survey(circuit: &Circuit, configuration: &[u8], output: &mut [u8]) -> (u64, u64) {
+    let cone = cone_of(circuit, configuration);
+    let front = front_of(circuit, configuration, &cone);
+    let interest = interest_of(circuit, &front);
     for gate in 0..cone.len() {
         output[gate] = cone[gate] as u8 + 2 * front[gate] as u8 + 4 * interest[gate] as u8;
     }
@@ -549,38 +551,28 @@ pub fn survey(map: &[u8], configuration: &[u8], output: &mut [u8]) -> Result<(u6
     if (output.len() as u64) < counts.gates {
         return Err(14);
     }
-    Ok(write_survey(map, configuration, output))
+    Ok(write_survey(&circuit_of(map), configuration, output))
 }
 
 /// "A tape entry is 4 bytes: draw (u16), kind (0 greedy, 1 down, 2 up), option."
 struct Entry {
     draw: u64,
     kind: u8,
-    option: u64,
+    option: u8,
 }
 
 /// Only asked for 4 bytes.
 fn entry_of(bytes: &[u8]) -> Entry {
-    Entry {
-        draw: u16_at(bytes, 0),
-        kind: bytes[2],
-        option: bytes[3] as u64,
-    }
+    Entry { draw: u16_at(bytes, 0), kind: bytes[2], option: bytes[3] }
 }
 
 /// "The front is listed by rising gate number".
-fn listed(set: &[bool]) -> Vec<u64> {
-    let mut list = Vec::new();
-    for (number, member) in set.iter().enumerate() {
-        if *member {
-            list.push(number as u64);
-        }
-    }
-    list
+fn listed(set: &[bool]) -> Vec<usize> {
+    (0..set.len()).filter(|number| set[*number]).collect()
 }
 
 /// One option for each child in order, turning that child.
-fn one_by_one(children: &[u64]) -> Vec<Vec<u64>> {
+fn one_by_one(children: &[usize]) -> Vec<Vec<usize>> {
     children.iter().map(|child| vec![*child]).collect()
 }
 
@@ -589,39 +581,40 @@ fn one_by_one(children: &[u64]) -> Vec<Vec<u64>> {
 /// turning that child; NOT, its child; XOR, first child or second child." Each
 /// is the list of the gates it turns: "A gate belongs to an option only if the
 /// option turns it." Only asked for gates of the front.
-fn down_options(gate: &GateRecord, value: u8, all_children: &[u64], configuration: &[u8]) -> Vec<Vec<u64>> {
-    let children = children_of(gate, all_children);
-    match (gate.kind, value) {
-        (AND, 1) => vec![children_at(0, &children, configuration)],
-        (OR, 0) => vec![children_at(1, &children, configuration)],
-        (AND, 0) | (OR, 1) => one_by_one(&children),
-        (NOT, _) | (XOR, _) => one_by_one(&children),
+fn down_options(circuit: &Circuit, configuration: &[u8], drawn: usize) -> Vec<Vec<usize>> {
+    let gate = &circuit.gates[drawn];
+    match (gate.kind, configuration[drawn]) {
+        (AND, 1) => vec![children_at(0, gate, configuration)],
+        (OR, 0) => vec![children_at(1, gate, configuration)],
+        (AND, 0) | (OR, 1) => one_by_one(&gate.children),
+        (NOT, _) | (XOR, _) => one_by_one(&gate.children),
         _ => panic!("an input is never in the front"),
     }
 }
 
 /// The configuration with these gates turned.
-fn with_turned(configuration: &[u8], gates: &[u64]) -> Vec<u8> {
+fn with_turned(configuration: &[u8], gates: &[usize]) -> Vec<u8> {
     let mut after = configuration.to_vec();
     for gate in gates {
-        after[*gate as usize] = 1 - after[*gate as usize];
+        after[*gate] = 1 - after[*gate];
     }
     after
 }
 
 /// The size of the interest set, as Survey returns it. Only asked for
 /// configurations that Survey accepts.
-fn interest_size(map: &[u8], configuration: &[u8]) -> u64 {
-    let cone = cone_of(map, configuration);
-    size_of(&interest_of(map, &front_of(map, configuration, &cone)))
+fn interest_size(circuit: &Circuit, configuration: &[u8]) -> u64 {
+    let cone = cone_of(circuit, configuration);
+    let front = front_of(circuit, configuration, &cone);
+    size_of(&interest_of(circuit, &front))
 }
 
 /// "of the options with the smallest interest set after the move, in rising
 /// order". No option turns a coded gate, which is nobody's child.
-fn with_smallest_interest(map: &[u8], configuration: &[u8], options: &[Vec<u64>]) -> Vec<Vec<u64>> {
+fn with_smallest_interest(circuit: &Circuit, configuration: &[u8], options: &[Vec<usize>]) -> Vec<Vec<usize>> {
     let mut sizes = Vec::new();
     for option in options {
-        sizes.push(interest_size(map, &with_turned(configuration, option)));
+        sizes.push(interest_size(circuit, &with_turned(configuration, option)));
     }
     let smallest = *sizes.iter().min().expect("a gate of the front has an option");
     let mut list = Vec::new();
@@ -634,12 +627,12 @@ fn with_smallest_interest(map: &[u8], configuration: &[u8], options: &[Vec<u64>]
 }
 
 /// The option at place `number` modulo how many there are.
-fn option_at(number: u64, options: &[Vec<u64>]) -> Vec<u64> {
-    options[(number % options.len() as u64) as usize].clone()
+fn option_at(number: u8, options: &[Vec<usize>]) -> Vec<usize> {
+    options[number as usize % options.len()].clone()
 }
 
-fn is_coded(map: &[u8], gate: u64) -> bool {
-    code_records(map).iter().any(|code| code.gate == gate)
+fn is_coded(circuit: &Circuit, number: usize) -> bool {
+    circuit.codes.iter().any(|(gate, _)| *gate == number)
 }
 
 /// The gates that an entry turns once its gate is drawn. "Down: option modulo
@@ -647,14 +640,12 @@ fn is_coded(map: &[u8], gate: u64) -> bool {
 /// On a coded gate, up acts as down. Greedy: of the options with the smallest
 /// interest set after the move, in rising order, the one at option modulo
 /// their number."
-fn turned_by(map: &[u8], configuration: &[u8], drawn: u64, entry: &Entry) -> Vec<u64> {
-    let gate = &gate_records(map)[drawn as usize];
-    let value = configuration[drawn as usize];
-    let options = down_options(gate, value, &child_records(map), configuration);
+fn turned_by(circuit: &Circuit, configuration: &[u8], drawn: usize, entry: &Entry) -> Vec<usize> {
+    let options = down_options(circuit, configuration, drawn);
     match entry.kind {
-        GREEDY => option_at(entry.option, &with_smallest_interest(map, configuration, &options)),
+        GREEDY => option_at(entry.option, &with_smallest_interest(circuit, configuration, &options)),
         DOWN => option_at(entry.option, &options),
-        UP if is_coded(map, drawn) => option_at(entry.option, &options),
+        UP if is_coded(circuit, drawn) => option_at(entry.option, &options),
         UP => vec![drawn],
         _ => panic!("test 13 declines such a kind"),
     }
@@ -663,14 +654,14 @@ fn turned_by(map: &[u8], configuration: &[u8], drawn: u64, entry: &Entry) -> Vec
 /// Does one entry and returns the drawn gate and how many values it turned:
 /// "the gate drawn stands at place draw modulo front size, counted from 0." Only
 /// asked where the front isn't empty.
-fn do_entry(map: &[u8], configuration: &mut [u8], entry: &Entry) -> (u64, u64) {
-    let cone = cone_of(map, configuration);
-    let front = listed(&front_of(map, configuration, &cone));
+fn do_entry(circuit: &Circuit, configuration: &mut [u8], entry: &Entry) -> (u64, u64) {
+    let cone = cone_of(circuit, configuration);
+    let front = listed(&front_of(circuit, configuration, &cone));
     let drawn = front[(entry.draw % front.len() as u64) as usize];
-    let turned = turned_by(map, configuration, drawn, entry);
+    let turned = turned_by(circuit, configuration, drawn, entry);
     let after = with_turned(configuration, &turned);
     configuration.copy_from_slice(&after);
-    (drawn, turned.len() as u64)
+    (drawn as u64, turned.len() as u64)
 }
 
 /// "**Move** does one entry and returns the drawn gate and how many values it
@@ -695,12 +686,13 @@ pub fn make_move(
     if (work.len() as u64) < counts.gates {
         return Err(14);
     }
-    let cone = cone_of(map, configuration);
-    if size_of(&front_of(map, configuration, &cone)) == 0 {
+    let circuit = circuit_of(map);
+    let cone = cone_of(&circuit, configuration);
+    if size_of(&front_of(&circuit, configuration, &cone)) == 0 {
         return Err(15);
     }
-    let outcome = do_entry(map, configuration, &entry);
-    write_survey(map, configuration, work);
+    let outcome = do_entry(&circuit, configuration, &entry);
+    write_survey(&circuit, configuration, work);
     Ok(outcome)
 }
 
@@ -749,15 +741,17 @@ fn run_tests(map: &[u8], configuration: &[u8], tape: &[u8], work: &[u8], answer:
 
 /// "Found writes the answer memory: inputs in the cone keep their values, all
 /// other inputs are 0, other gates are evaluated."
-fn write_answer(map: &[u8], configuration: &[u8], answer: &mut [u8]) {
-    let cone = cone_of(map, configuration);
+fn write_answer(circuit: &Circuit, configuration: &[u8], answer: &mut [u8]) {
+    let cone = cone_of(circuit, configuration);
     let mut row = Vec::new();
-    for (number, gate) in gate_records(map).iter().enumerate() {
+    for (number, gate) in circuit.gates.iter().enumerate() {
         if gate.kind == INPUT {
             row.push(if cone[number] { configuration[number] } else { 0 });
         }
     }
-    evaluate(map, &row, answer).expect("the map and its memory are accepted");
+    for (place, value) in values_for(circuit, &row).iter().enumerate() {
+        answer[place] = *value;
+    }
 }
 
 /// "**Run** repeats: survey; if the front is empty, end Found; if the tape is
@@ -772,17 +766,18 @@ pub fn run(map: &[u8], configuration: &mut [u8], tape: &[u8], work: &mut [u8], a
     if let Err(number) = run_tests(map, configuration, tape, work, answer) {
         return Answer { ending: Ending::Refused(number), moves: 0, flips: 0 };
     }
+    let circuit = circuit_of(map);
     let (mut moves, mut flips, mut place) = (0, 0, 0);
     loop {
-        let (front, _) = write_survey(map, configuration, work);
+        let (front, _) = write_survey(&circuit, configuration, work);
         if front == 0 {
-            write_answer(map, configuration, answer);
+            write_answer(&circuit, configuration, answer);
             return Answer { ending: Ending::Found, moves, flips };
         }
         if place == tape.len() {
             return Answer { ending: Ending::Spent(front), moves, flips };
         }
-        let (_, turned) = do_entry(map, configuration, &entry_of(&tape[place..place + 4]));
+        let (_, turned) = do_entry(&circuit, configuration, &entry_of(&tape[place..place + 4]));
         moves += 1;
         flips += turned;
         place += 4;

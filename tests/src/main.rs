@@ -9,10 +9,7 @@
 //!                                         DIR/0, DIR/1, .. and the lines it is to
 //!                                         print as DIR/0.line, DIR/1.line, ..
 
-mod cases;
-mod engine;
-#[cfg(test)]
-mod run_tests;
+use peeriewick_tests::{engine, fixed, frame, random};
 
 use std::fs;
 use std::io::{self, Read, Write};
@@ -24,57 +21,48 @@ fn write_inputs(seed: u64, n: usize, folder: &Path) -> Result<(), String> {
         fs::write(&path, bytes).map_err(|e| format!("{}: {e}", path.display()))
     };
     fs::create_dir_all(folder).map_err(|e| format!("{}: {e}", folder.display()))?;
-    for (number, input) in cases::program_inputs(seed, n).iter().enumerate() {
+    for (number, input) in random::program_inputs(seed, n).iter().enumerate() {
         write(format!("{number}"), input)?;
         write(format!("{number}.line"), format!("{}\n", engine::program(input)).as_bytes())?;
     }
     Ok(())
 }
 
+/// One line for each fixed case.
+fn lines(of: impl Fn(fixed::Named) -> String) -> Vec<u8> {
+    let mut text = String::new();
+    for named in fixed::fixed() {
+        text.push_str(&of(named));
+        text.push('\n');
+    }
+    text.into_bytes()
+}
+
+fn answers() -> Result<Vec<u8>, String> {
+    let mut bytes = Vec::new();
+    io::stdin().read_to_end(&mut bytes).map_err(|e| format!("standard input: {e}"))?;
+    let mut text = String::new();
+    for case in frame::parse(&bytes)? {
+        text.push_str(&frame::answer(&case));
+        text.push('\n');
+    }
+    Ok(text.into_bytes())
+}
+
+fn number<T: std::str::FromStr>(name: &str, word: &str) -> Result<T, String> {
+    word.parse().map_err(|_| format!("{name}: not a number: {word}"))
+}
+
 fn run(arguments: &[String]) -> Result<Vec<u8>, String> {
     let words: Vec<&str> = arguments.iter().map(|a| a.as_str()).collect();
     match words[..] {
-        ["fixed"] => {
-            let list = cases::fixed();
-            Ok(cases::file(list.iter().map(|named| &named.case)))
-        }
-        ["names"] => {
-            let mut text = String::new();
-            for named in cases::fixed() {
-                text.push_str(&named.name);
-                text.push('\n');
-            }
-            Ok(text.into_bytes())
-        }
-        ["expected"] => {
-            let mut text = String::new();
-            for named in cases::fixed() {
-                text.push_str(&named.expected);
-                text.push('\n');
-            }
-            Ok(text.into_bytes())
-        }
-        ["random", seed, n] => {
-            let seed = seed.parse::<u64>().map_err(|e| format!("SEED: {e}"))?;
-            let n = n.parse::<usize>().map_err(|e| format!("N: {e}"))?;
-            Ok(cases::file(&cases::random(seed, n)))
-        }
-        ["answers"] => {
-            let mut bytes = Vec::new();
-            io::stdin()
-                .read_to_end(&mut bytes)
-                .map_err(|e| format!("standard input: {e}"))?;
-            let mut text = String::new();
-            for case in cases::parse(&bytes)? {
-                text.push_str(&cases::answer(&case));
-                text.push('\n');
-            }
-            Ok(text.into_bytes())
-        }
+        ["fixed"] => Ok(frame::file(fixed::fixed().iter().map(|named| &named.case))),
+        ["names"] => Ok(lines(|named| named.name)),
+        ["expected"] => Ok(lines(|named| named.expected)),
+        ["random", seed, n] => Ok(frame::file(&random::random(number("SEED", seed)?, number("N", n)?))),
+        ["answers"] => answers(),
         ["inputs", seed, n, folder] => {
-            let seed = seed.parse::<u64>().map_err(|e| format!("SEED: {e}"))?;
-            let n = n.parse::<usize>().map_err(|e| format!("N: {e}"))?;
-            write_inputs(seed, n, Path::new(folder))?;
+            write_inputs(number("SEED", seed)?, number("N", n)?, Path::new(folder))?;
             Ok(vec![])
         }
         _ => Err(String::from("use: fixed | names | expected | random SEED N | answers | inputs SEED N DIR")),
@@ -92,362 +80,5 @@ fn main() {
     if let Err(message) = outcome {
         eprintln!("peeriewick-tests: {message}");
         std::process::exit(2);
-    }
-}
-
-#[cfg(test)]
-mod tests {
-    use super::cases::*;
-    use super::engine::*;
-    use std::collections::BTreeSet;
-
-    /// The adder of the bench examples, byte by byte.
-    const ADDER: [u8; 68] = [
-        12, 0, 8, 0, 44, 0, 10, 0, 64, 0, 1, 0, // contents
-        0, 0, 0, 0, // 0 input
-        0, 0, 0, 0, // 1 input
-        0, 0, 0, 0, // 2 input
-        4, 2, 0, 0, // 3 XOR(0,1)
-        2, 2, 2, 0, // 4 AND(0,1)
-        2, 2, 4, 0, // 5 AND(2,3)
-        4, 2, 6, 0, // 6 XOR(2,3)
-        3, 2, 8, 0, // 7 OR(4,5)
-        0, 0, 1, 0, 0, 0, 1, 0, 2, 0, 3, 0, 2, 0, 3, 0, 4, 0, 5, 0, // children
-        7, 0, 1, 0, // code 7 = 1
-    ];
-
-    #[test]
-    fn the_adder_is_accepted() {
-        let counts = Counts { gates: 8, inputs: 3, children: 10, codes: 1 };
-        assert_eq!(check(&ADDER), Ok(counts));
-        assert_eq!(adder(), ADDER);
-    }
-
-    #[test]
-    fn p12_mark_of_a_is_no() {
-        assert_eq!(mark(&ADDER, &[0, 0, 1, 1, 0, 1, 0, 1]), Ok(false));
-    }
-
-    #[test]
-    fn rows_of_p3_p4_and_p8_are_keys() {
-        // P3: row 1 0 1; P4: row 0 1 1; P8: answer 1 1 0 0 1 0 0 1, B itself isn't one.
-        for (row, values) in [
-            ([1, 0, 1], [1, 0, 1, 1, 0, 1, 0, 1]),
-            ([0, 1, 1], [0, 1, 1, 1, 0, 1, 0, 1]),
-            ([1, 1, 0], [1, 1, 0, 0, 1, 0, 0, 1]),
-        ] {
-            let mut output = [170; 9];
-            assert_eq!(evaluate(&ADDER, &row, &mut output), Ok(()));
-            assert_eq!(output[..8], values);
-            assert_eq!(output[8], 170);
-            assert_eq!(mark(&ADDER, &values), Ok(true));
-        }
-        assert_eq!(mark(&ADDER, &[1, 1, 1, 1, 1, 0, 0, 1]), Ok(false));
-    }
-
-    #[test]
-    fn p1_survey_of_a() {
-        let mut output = [170; 9];
-        assert_eq!(survey(&ADDER, &[0, 0, 1, 1, 0, 1, 0, 1], &mut output), Ok((1, 3)));
-        assert_eq!(output, [4, 4, 1, 7, 0, 1, 0, 1, 170]);
-    }
-
-    #[test]
-    fn p2_survey_of_b() {
-        let mut output = [170; 8];
-        assert_eq!(survey(&ADDER, &[1, 1, 1, 1, 1, 0, 0, 1], &mut output), Ok((0, 0)));
-        assert_eq!(output, [1, 1, 0, 0, 1, 0, 0, 1]);
-    }
-
-    /// P5 and P6 name a survey or sizes of the configurations they end with.
-    #[test]
-    fn surveys_of_p5_and_p6() {
-        let mut output = [170; 8];
-        assert_eq!(survey(&ADDER, &[0, 0, 1, 0, 0, 1, 0, 1], &mut output), Ok((1, 5)));
-        assert_eq!(output, [4, 4, 4, 4, 0, 7, 0, 1]);
-        let turned = [0, 0, 1, 0, 1, 0, 0, 1];
-        assert_eq!(survey(&ADDER, &turned, &mut output), Ok((1, 3)));
-    }
-
-    #[test]
-    fn declined_calls_leave_the_memory() {
-        let mut output = [170; 7];
-        assert_eq!(evaluate(&ADDER, &[1, 0, 1], &mut output), Err(14));
-        assert_eq!(output, [170; 7]);
-        assert_eq!(evaluate(&ADDER, &[1, 0, 2], &mut output), Err(10));
-        assert_eq!(evaluate(&ADDER, &[1, 0, 2, 0], &mut output), Err(9));
-        assert_eq!(evaluate(&ADDER[..67], &[1, 0, 2, 0], &mut output), Err(3));
-        assert_eq!(output, [170; 7]);
-    }
-
-    #[test]
-    fn declined_surveys_leave_the_memory() {
-        let mut output = [170; 7];
-        assert_eq!(survey(&ADDER, &[0, 0, 1, 1, 0, 1, 0, 1], &mut output), Err(14));
-        assert_eq!(survey(&ADDER, &[0, 0, 1, 1, 0, 1, 0, 0], &mut output), Err(11));
-        assert_eq!(survey(&ADDER, &[2, 0, 1, 1, 0, 1, 0, 0], &mut output), Err(10));
-        assert_eq!(survey(&ADDER, &[2, 0, 1, 1, 0, 1, 0], &mut output), Err(9));
-        assert_eq!(survey(&ADDER[..67], &[2, 0, 1, 1, 0, 1, 0], &mut output), Err(3));
-        assert_eq!(output, [170; 7]);
-    }
-
-    /// The moves of P3 to P7: configuration, entry, gate, new one, survey.
-    #[test]
-    fn moves_of_p3_to_p7() {
-        let a = [0, 0, 1, 1, 0, 1, 0, 1];
-        let c = [0, 0, 1, 0, 0, 0, 0, 1];
-        for (start, entry, gate, after, bytes) in [
-            (a, [0, 0, DOWN, 0], 3, [1, 0, 1, 1, 0, 1, 0, 1], [1, 1, 1, 1, 0, 1, 0, 1]),
-            (a, [0, 0, DOWN, 3], 3, [0, 1, 1, 1, 0, 1, 0, 1], [1, 1, 1, 1, 0, 1, 0, 1]),
-            (a, [0, 0, UP, 0], 3, [0, 0, 1, 0, 0, 1, 0, 1], [4, 4, 4, 4, 0, 7, 0, 1]),
-            (c, [0, 0, GREEDY, 0], 7, [0, 0, 1, 0, 1, 0, 0, 1], [4, 4, 0, 0, 7, 0, 0, 1]),
-            (c, [0, 0, UP, 1], 7, [0, 0, 1, 0, 0, 1, 0, 1], [4, 4, 4, 4, 0, 7, 0, 1]),
-        ] {
-            let mut configuration = start;
-            let mut work = [170; 9];
-            assert_eq!(make_move(&ADDER, &mut configuration, &entry, &mut work), Ok((gate, 1)));
-            assert_eq!(configuration, after);
-            assert_eq!(work[..8], bytes);
-            assert_eq!(work[8], 170);
-        }
-    }
-
-    #[test]
-    fn declined_moves_leave_both_memories() {
-        let a = [0, 0, 1, 1, 0, 1, 0, 1];
-        let b = [1, 1, 1, 1, 1, 0, 0, 1];
-        let broken = [0, 0, 1, 1, 0, 1, 0, 0];
-        let above = [2, 0, 1, 1, 0, 1, 0, 0];
-        let go: &[u8] = &[0, 0, DOWN, 0];
-        let list: [(&[u8], &[u8], &[u8], usize, u8); 9] = [
-            (&ADDER[..11], &a, go, 8, 1),
-            (&ADDER[..67], &a, go, 8, 3),
-            (&ADDER, &a[..7], go, 8, 9),
-            (&ADDER, &above, go, 8, 10),
-            (&ADDER, &broken, go, 8, 11),
-            (&ADDER, &a, &[0, 0, 3, 0, 0], 8, 12),
-            (&ADDER, &a, &[0, 0, 3, 0], 7, 13),
-            (&ADDER, &b, go, 7, 14),
-            (&ADDER, &b, go, 8, 15),
-        ];
-        for (map, start, entry, room, number) in list {
-            let mut configuration = start.to_vec();
-            let mut work = vec![170; room];
-            assert_eq!(make_move(map, &mut configuration, entry, &mut work), Err(number));
-            assert_eq!(configuration, start);
-            assert_eq!(work, vec![170; room]);
-        }
-    }
-
-    #[test]
-    fn children_are_a_stretch_of_the_lent_map() {
-        let stretch = children(&ADDER, 7);
-        assert_eq!(stretch, [4, 0, 5, 0]);
-        assert!(std::ptr::eq(stretch, &ADDER[60..64]));
-        assert!(children(&ADDER, 0).is_empty());
-        assert!(children(&ADDER, 8).is_empty());
-        assert!(children(&ADDER[..67], 7).is_empty());
-    }
-
-    #[test]
-    fn fixed_lines_are_those_written_by_hand() {
-        for named in fixed() {
-            assert_eq!(answer(&named.case), named.expected, "{}", named.name);
-        }
-    }
-
-    /// "gives n" in a name stands for REFUSED n, and no other line is one.
-    #[test]
-    fn fixed_names_say_their_numbers() {
-        for named in fixed() {
-            let said = named.name.split(" gives ").nth(1).map(|rest| {
-                let end = rest.find(',').expect("a comma after the number");
-                format!("REFUSED {}", &rest[..end])
-            });
-            let words: Vec<&str> = named.expected.split(' ').collect();
-            let line = if words[0] == "REFUSED" { Some(words[..2].join(" ")) } else { None };
-            assert_eq!(line, said, "{}", named.name);
-            assert!(!named.name.contains('\n'));
-        }
-    }
-
-    #[test]
-    fn fixed_names_are_unlike_and_the_list_is_small() {
-        let list = fixed();
-        let names: BTreeSet<&str> = list.iter().map(|named| named.name.as_str()).collect();
-        assert_eq!(names.len(), list.len());
-        let bytes = file(list.iter().map(|named| &named.case));
-        println!("{} fixed cases, {} bytes", list.len(), bytes.len());
-        assert!(bytes.len() < 500_000);
-        let back = parse(&bytes).unwrap();
-        assert_eq!(back.len(), list.len());
-        assert!(back.iter().zip(&list).all(|(case, named)| *case == named.case));
-    }
-
-    fn numbers<'a>(lines: impl Iterator<Item = &'a String>) -> BTreeSet<u8> {
-        lines
-            .filter_map(|line| line.strip_prefix("REFUSED "))
-            .map(|rest| rest.split(' ').next().unwrap().parse().unwrap())
-            .collect()
-    }
-
-    #[test]
-    fn fixed_covers_every_number_for_every_op() {
-        let list = fixed();
-        let of = |op: u8| numbers(list.iter().filter(|n| n.case.op == op).map(|n| &n.expected));
-        assert_eq!(of(b'c'), (1..=8).collect());
-        assert_eq!(of(b'e'), (1..=10).chain([14]).collect());
-        assert_eq!(of(b'm'), (1..=10).collect());
-        assert_eq!(of(b's'), (1..=11).chain([14]).collect());
-        assert_eq!(of(b'v'), (1..=15).collect());
-        assert_eq!(of(b'r'), (1..=14).collect());
-        assert_eq!(of(b'p'), (0..=13).collect());
-    }
-
-    #[test]
-    fn random_covers_every_number() {
-        let cases = random(1, 1200);
-        assert!(cases.len() >= 960, "only {} cases fit", cases.len());
-        let lines: Vec<String> = cases.iter().map(answer).collect();
-        assert_eq!(numbers(lines.iter()), (0..=15).collect());
-        for word in ["OK ", "DONE ", "YES", "NO", "CHILDREN ", "SIZES ", "MOVED ", "FOUND ", "SPENT "] {
-            let count = lines.iter().filter(|line| line.starts_with(word)).count();
-            assert!(count >= 15, "{word}: {count}");
-        }
-        let declined = lines.iter().filter(|line| line.starts_with("REFUSED")).count();
-        assert!(2 * declined < cases.len());
-    }
-
-    /// The surveys among random cases meet every byte and fronts of all sorts.
-    #[test]
-    fn random_surveys_are_not_bare() {
-        let surveys: Vec<Case> = (0..4)
-            .flat_map(|seed| random(seed, 900))
-            .filter(|case| case.op == b's')
-            .collect();
-        let lines: Vec<String> = surveys.iter().map(answer).collect();
-        assert_eq!(numbers(lines.iter()), (1..=11).chain([14]).collect());
-        let (mut none, mut one, mut more) = (0, 0, 0);
-        let mut with_byte = [0; 8];
-        for case in &surveys {
-            let mut memory = [170; ROOM_LIMIT];
-            if let Ok((front, _)) = survey(&case.map, &case.body, &mut memory) {
-                match front {
-                    0 => none += 1,
-                    1 => one += 1,
-                    _ => more += 1,
-                }
-                for (byte, count) in with_byte.iter_mut().enumerate() {
-                    *count += memory.contains(&(byte as u8)) as u32;
-                }
-            }
-        }
-        println!("{} surveys, fronts: {none} none, {one} one, {more} more; bytes {with_byte:?}", surveys.len());
-        assert!(none >= 30 && one >= 30 && more >= 30);
-        for byte in [0, 1, 4, 5, 7] {
-            assert!(with_byte[byte] >= 30, "byte {byte}: {}", with_byte[byte]);
-        }
-        // The front is in the cone and interesting, so no other byte can come.
-        assert_eq!((with_byte[2], with_byte[3], with_byte[6]), (0, 0, 0));
-    }
-
-    /// The outcome of a move case with another kind and option.
-    fn outcome(case: &Case, kind: u8, option: u8) -> Result<(u64, u64, Vec<u8>), u8> {
-        let mut configuration = case.body.clone();
-        let mut work = vec![170; case.room];
-        let mut entry = case.tape.clone();
-        if entry.len() == 4 {
-            entry[2] = kind;
-            entry[3] = option;
-        }
-        let (gate, turned) = make_move(&case.map, &mut configuration, &entry, &mut work)?;
-        Ok((gate, turned, configuration))
-    }
-
-    /// How many configurations a kind can lead to from a move case; an option
-    /// byte below 8 reaches each.
-    fn ways(case: &Case, kind: u8) -> usize {
-        let list: BTreeSet<Vec<u8>> = (0..8).map(|option| outcome(case, kind, option).unwrap().2).collect();
-        list.len()
-    }
-
-    /// The moves among random cases meet every number, every kind, and greedy
-    /// choices of all sorts.
-    #[test]
-    fn random_moves_are_not_bare() {
-        let moves: Vec<Case> = (0..8)
-            .flat_map(|seed| random(seed, 800))
-            .filter(|case| case.op == b'v')
-            .collect();
-        let lines: Vec<String> = moves.iter().map(answer).collect();
-        assert_eq!(numbers(lines.iter()), (1..=15).collect());
-        let mut kinds = [0; 3];
-        let (mut several, mut upward, mut coded) = (0, 0, 0);
-        let (mut fewer, mut tied, mut both) = (0, 0, 0);
-        for case in &moves {
-            let (kind, option) = match case.tape[..] {
-                [_, _, kind, option] => (kind, option),
-                _ => continue,
-            };
-            if let Ok((gate, turned, after)) = outcome(case, kind, option) {
-                kinds[kind as usize] += 1;
-                several += (turned > 1) as u32;
-                if kind == UP {
-                    let itself = after[gate as usize] != case.body[gate as usize];
-                    upward += itself as u32;
-                    coded += !itself as u32;
-                }
-                if kind == GREEDY {
-                    let (all, best) = (ways(case, DOWN), ways(case, GREEDY));
-                    fewer += (best < all) as u32;
-                    tied += (best > 1) as u32;
-                    both += (1 < best && best < all) as u32;
-                }
-            }
-        }
-        println!(
-            "{} moves, {kinds:?} done; {several} turn several; up: {upward} itself, {coded} coded; \
-             greedy: {fewer} with fewer than all, {tied} with ties, {both} with both",
-            moves.len()
-        );
-        assert!(kinds.iter().all(|count| *count >= 80));
-        assert!(several >= 30 && upward >= 30 && coded >= 30);
-        assert!(fewer >= 30 && tied >= 30 && both >= 15);
-    }
-
-    #[test]
-    fn random_keeps_to_the_format() {
-        for seed in 0..20 {
-            let cases = random(seed, 3000);
-            let bytes = file(&cases);
-            assert!(bytes.len() <= RANDOM_LIMIT && RANDOM_LIMIT <= FILE_LIMIT);
-            assert_eq!(parse(&bytes), Ok(cases));
-        }
-        assert_eq!(random(7, 50), random(7, 50));
-        assert_ne!(random(7, 50), random(8, 50));
-    }
-
-    #[test]
-    fn a_case_that_is_cut_off_ends_the_file() {
-        let list = fixed();
-        let bytes = file(list[..3].iter().map(|named| &named.case));
-        assert_eq!(parse(&bytes[..bytes.len() - 1]).unwrap().len(), 2);
-        assert_eq!(parse(&bytes[..6]).unwrap().len(), 0);
-        assert_eq!(parse(&[]).unwrap().len(), 0);
-    }
-
-    /// A move's head is four bytes longer than the others', and the tape is last.
-    #[test]
-    fn a_move_that_is_cut_off_ends_the_file() {
-        let body = vec![0, 0, 1, 1, 0, 1, 0, 1];
-        let case = Case { op: b'v', map: ADDER.to_vec(), body, room: 8, tape: vec![1, 2, 3], times: 0, answer: 0 };
-        let bytes = case.framed();
-        assert_eq!(bytes[..11], [b'v', 68, 0, 8, 0, 8, 0, 3, 0, 0, 0]);
-        assert_eq!(bytes[bytes.len() - 4..], [1, 1, 2, 3]);
-        assert_eq!(bytes.len(), case.size());
-        for length in 0..bytes.len() {
-            assert_eq!(parse(&bytes[..length]), Ok(vec![]));
-        }
-        assert_eq!(parse(&bytes), Ok(vec![case]));
     }
 }

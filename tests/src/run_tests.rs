@@ -1,7 +1,10 @@
 //! What the documents say of runs, tried on all small maps and on random ones.
 
-use super::cases::*;
-use super::engine::*;
+use crate::engine::*;
+use crate::fixed::adder;
+use crate::frame::*;
+use crate::maps::{build, configurations, maps_of};
+use crate::random::{program_inputs, random};
 use std::collections::BTreeSet;
 
 /// A run's record and the memories after it.
@@ -125,69 +128,6 @@ fn the_most_flips() {
 }
 
 // ------------------------------------------------------------- all small maps
-
-type Gates = Vec<(u8, Vec<u16>)>;
-
-/// Every gate that may stand at place `number`.
-fn gates_at(number: u16) -> Gates {
-    let mut list = vec![(INPUT, vec![])];
-    for set in 1..1u16 << number {
-        let children: Vec<u16> = (0..number).filter(|child| set >> child & 1 == 1).collect();
-        let kinds: &[u8] = match children.len() {
-            1 => &[NOT],
-            2 => &[AND, OR, XOR],
-            _ => &[AND, OR],
-        };
-        list.extend(kinds.iter().map(|kind| (*kind, children.clone())));
-    }
-    list
-}
-
-/// Every list of `n` gates.
-fn gate_lists(n: u16) -> Vec<Gates> {
-    let mut lists = vec![vec![]];
-    for number in 0..n {
-        let mut longer = Vec::new();
-        for list in &lists {
-            for gate in gates_at(number) {
-                longer.push([&list[..], &[gate]].concat());
-            }
-        }
-        lists = longer;
-    }
-    lists
-}
-
-/// Every choice of codes: none, 0 or 1 for each gate that is nobody's child.
-fn code_lists(gates: &Gates) -> Vec<Vec<(u16, u8)>> {
-    let mut lists = vec![vec![]];
-    for gate in 0..gates.len() as u16 {
-        if gates.iter().any(|(_, children)| children.contains(&gate)) {
-            continue;
-        }
-        let mut longer = lists.clone();
-        for list in &lists {
-            longer.push([&list[..], &[(gate, 0)]].concat());
-            longer.push([&list[..], &[(gate, 1)]].concat());
-        }
-        lists = longer;
-    }
-    lists
-}
-
-/// Every map of `n` gates.
-fn maps_of(n: u16) -> Vec<Vec<u8>> {
-    let mut maps = Vec::new();
-    for gates in gate_lists(n) {
-        maps.extend(code_lists(&gates).iter().map(|codes| build(&gates, codes)));
-    }
-    assert!(maps.iter().all(|map| check(map).is_ok()));
-    maps
-}
-
-fn configurations(n: u16) -> Vec<Vec<u8>> {
-    (0..1u16 << n).map(|bits| (0..n).map(|gate| (bits >> gate & 1) as u8).collect()).collect()
-}
 
 /// The configurations that keep the map's codes.
 fn starts(map: &[u8], n: u16) -> Vec<Vec<u8>> {

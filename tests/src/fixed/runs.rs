@@ -1,6 +1,7 @@
 //! The fixed cases of runs and of the program, with lines written by hand.
 
 use super::*;
+use crate::frame::lengths_of;
 
 /// Entries, and how often they are repeated.
 type Tape<'a> = (&'a [[u8; 4]], usize);
