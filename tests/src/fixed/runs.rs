@@ -182,7 +182,7 @@ fn thousand_inputs() -> Vec<u8> {
 
 // ---------------------------------------------------------------- the lists
 
-pub fn fixed_runs(l: &mut List) {
+pub(super) fn fixed_runs(l: &mut List) {
     bench(l);
     endings(l);
     draws(l);
