@@ -1,13 +1,11 @@
 -- The examples, computed. Assumes nothing.
 use mathlib.Core.Path.{refl}
-use Rattle.map.specs.Check.{verdict, checked}
-use Rattle.map.specs.Children.{hasGate, stretchAt, stretchLength}
 use Rattle.state.proofs.Bench.{opened}
 use Rattle.abi_state.specs.Numbers.{placed}
 use Rattle.abi_state.specs.Bench.{Examples}
 
 pub examples : Examples
-unfolding opened verdict checked hasGate stretchAt stretchLength placed
+unfolding opened placed
 examples = record {
   counts = refl;
   two-places = refl;

@@ -10,7 +10,7 @@ use Rattle.map.specs.Children.{hasGate, stretchAt, stretchLength}
 use Rattle.map.specs.Bench.{adderBytes, gapBytes, twoCodesBytes, wideBytes, Examples}
 
 -- every definition that the examples compute with, under one name
-opened : ℕ
+unfoldable pub opened : ℕ
 unfolding _and_ _or_ allBelow inputsBefore adder u16At fanInsBefore codeAmong kidsOf offsetsTest kindFits kindTest positionTest positionsTest childTest childrenTest codeTest freeTest firstFailed contentsTests bodiesTests mapTests verdict checked hasGate stretchAt stretchLength adderBytes gapBytes twoCodesBytes wideBytes
 opened = 0
 

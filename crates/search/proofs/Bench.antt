@@ -1,28 +1,19 @@
 -- The examples, computed. Assumes nothing.
 use Prim.Native.Nat.{ℕ}
 use mathlib.Core.Path.{refl}
-use Rattle.folds.specs.Folds.{_and_, _or_, allBelow, descend}
-use Rattle.circuit.specs.Circuit.{justified}
-use Rattle.circuit.specs.Survey.{spread, reasons, cone, inFront, front, interest, survey, frontSize, interestSize}
-use Rattle.circuit.specs.Evaluate.{inputsBefore, rowOf, values, mark}
 use Rattle.circuit.specs.Run.{drawn, downOptions, optionAt, greedyOptions, chosen, turned, run, answer}
-use Rattle.circuit.specs.Bench.{adder, clash, uncoded, corner}
-use Rattle.map.specs.Map.{u16At, fanInsBefore, codeAmong, kidsOf}
-use Rattle.map.specs.Check.{offsetsTest, kindFits, kindTest, positionTest, positionsTest, childTest, childrenTest, codeTest, freeTest, firstFailed, contentsTests, bodiesTests, mapTests}
-use Rattle.map.specs.Bench.{adderBytes, twoCodesBytes}
-use Rattle.state.specs.State.{bitsTest, configurationTests, markingBy, marking}
-use Rattle.survey.specs.Survey.{codesTest, startTests, surveyTests, surveyingBy, surveying}
-use Rattle.survey.specs.Bench.{clashBytes, uncodedBytes}
+use Rattle.circuit.specs.Bench.{clash, uncoded, corner}
 use Rattle.search.specs.Tape.{entryAt, entriesFrom, entries, tapeTest, kindsTest}
 use Rattle.search.specs.Move.{frontTest, entryTests, moveTests, movingBy, moving}
 use Rattle.search.specs.Run.{tapeTests, runTests, runningBy, running}
 use Rattle.search.specs.Bench.{cornerBytes, notsBytes, Examples}
 use Rattle.search.specs.Table.{P1ToP12}
 use Rattle.search.specs.Table as table
+use Rattle.survey.proofs.Bench.{opened as opened-below}
 
 -- every definition that the examples compute with, under one name
 unfoldable pub opened : ℕ
-unfolding _and_ _or_ allBelow descend justified spread reasons cone inFront front interest survey frontSize interestSize drawn downOptions optionAt greedyOptions chosen turned u16At fanInsBefore codeAmong kidsOf offsetsTest kindFits kindTest positionTest positionsTest childTest childrenTest codeTest freeTest firstFailed contentsTests bodiesTests mapTests adderBytes twoCodesBytes bitsTest configurationTests codesTest startTests clashBytes entryAt kindsTest frontTest entryTests moveTests movingBy moving cornerBytes notsBytes inputsBefore rowOf values mark run answer entriesFrom entries tapeTest tapeTests runTests runningBy running markingBy marking surveyTests surveyingBy surveying uncodedBytes
+unfolding opened-below drawn downOptions optionAt greedyOptions chosen turned entryAt kindsTest frontTest entryTests moveTests movingBy moving cornerBytes notsBytes run answer entriesFrom entries tapeTest tapeTests runTests runningBy running
 opened = 0
 
 pub examples : Examples
@@ -52,7 +43,7 @@ examples = record {
 }
 
 pub p1-to-p12 : P1ToP12
-unfolding opened adder clash uncoded corner
+unfolding opened clash uncoded corner
 p1-to-p12 = record {
   adder-is = record { gates = refl; kinds = refl; kids = refl; codes = refl };
   adder-bytes = refl;
