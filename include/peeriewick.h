@@ -9,7 +9,7 @@
  *
  * A lent buffer is a pointer and a length in elements; `NULL, 0` is an empty one. Buffers that a call writes must not overlap any other
  * buffer of that call. Any bytes may be given, and output, work, answer and `numbers` may hold anything before a call. No call allocates or keeps anything
- * between calls: calls may run at the same time, on the same map too, as long as none writes what another reads or writes. A call takes some 5 KiB of
+ * between calls: calls may run at the same time, on the same map too, as long as none writes what another reads or writes. A call takes less than 6 KiB of
  * stack, and of the C library memset alone.
  *
  * Each call but peeriewick_children returns the number that declines it, or 0 (README has the table). Other numbers of the answer go into
@@ -58,7 +58,7 @@ uint8_t peeriewick_survey(const uint8_t *map, size_t map_len,
                           uint8_t *out, size_t out_len,
                           size_t *numbers, size_t numbers_len);
 
-/* Does one tape entry. `configuration`: exactly a byte 0 or 1 for each gate, with the codes kept; it becomes the new one. `entry`: 4 bytes: draw (two bytes, the lower
+/* Does one tape entry. `configuration`: exactly a byte 0 or 1 for each gate, with the codes kept; it becomes the new one. `entry`: exactly 4 bytes: draw (two bytes, the lower
  * first), kind (0 greedy, 1 down, 2 up), option. `work`: room for a byte per gate, written: the survey of the new configuration. Numbers (2): the drawn gate, how
  * many values were turned (1 to 8). Declines with 1 to 15. */
 uint8_t peeriewick_move(const uint8_t *map, size_t map_len,

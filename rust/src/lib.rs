@@ -1,9 +1,11 @@
 //! Peeriewick for hosts in Rust: the calls of document 01 on slices, over the proved engine's archive.
 //!
 //! Any bytes may be given to any call. A call that is refused gives [`Refused`] with its number and leaves every slice as it was; an accepted
-//! one writes into the first bytes of a slice and leaves its surplus. Nothing allocates or keeps anything between calls. What a C host must see
-//! to itself, good pointers and buffers that don't overlap, slices and borrows have by themselves. A row or configuration has exactly its length; output, work
-//! and answer memory may be longer than needed and hold anything.
+//! one writes into the first bytes of a slice and leaves its surplus. Nothing allocates or keeps anything between calls. What a host in C
+//! must see to itself (good pointers, buffers that don't overlap) the language sees to here.
+//!
+//! `docs/FORMAT.md` has the bytes of maps, rows, configurations, tapes and surveys. A row or configuration has exactly its length; output, work and answer
+//! memory may be longer than needed and hold anything.
 
 pub mod raw;
 
@@ -86,7 +88,7 @@ pub fn children(map: &[u8], gate: usize) -> &[u8] {
     &map[at..at + length]
 }
 
-/// Writes the value of every gate into `out`, for a row of one byte per input. Declines with 1 to 10 and 14.
+/// Writes the value of every gate into `out`, for a row of one byte 0 or 1 per input, by gate number. Declines with 1 to 10 and 14.
 pub fn evaluate(map: &[u8], row: &[u8], out: &mut [u8]) -> Result<(), Refused> {
     let number = unsafe {
         raw::peeriewick_evaluate(map.as_ptr(), map.len(), row.as_ptr(), row.len(), out.as_mut_ptr(), out.len())
@@ -146,8 +148,8 @@ pub struct Turn {
     pub turned: usize,
 }
 
-/// Does one tape entry of 4 bytes on the configuration, and writes the survey of the new one into `work`. Declines with 1 to 15. (`move` is a word
-/// of the language.)
+/// Does one tape entry of 4 bytes on the configuration, and writes the survey of the new one into `work`. Declines with 1 to 15. (`move` is a reserved
+/// word.)
 #[cfg(feature = "search")]
 pub fn make_move(map: &[u8], configuration: &mut [u8], entry: &[u8], work: &mut [u8]) -> Result<Turn, Refused> {
     let mut n = [0usize; 2];
@@ -173,7 +175,7 @@ pub fn make_move(map: &[u8], configuration: &mut [u8], entry: &[u8], work: &mut 
 #[cfg(feature = "search")]
 #[derive(Debug, Clone, Copy, PartialEq, Eq, Hash)]
 pub enum Ending {
-    /// The front is empty, and `answer` holds a state that shows the codes.
+    /// The front is empty, and `answer` begins with the value of every gate in a state that shows the codes: the state is its bytes at the inputs.
     Found,
     /// The tape is used up, and the front has this size.
     Spent(usize),
@@ -188,8 +190,8 @@ pub struct Outcome {
     pub flips: usize,
 }
 
-/// Does the tape's entries until the front is empty or the tape is used up. The configuration is then the last one, `work` has its survey, and for
-/// [`Ending::Found`] `answer` a byte per gate. Declines with 1 to 14.
+/// Does the tape's entries until the front is empty or the tape is used up. The configuration is then the last one, `work` has its survey, and
+/// `answer` is written for [`Ending::Found`] alone. Declines with 1 to 14.
 #[cfg(feature = "search")]
 pub fn run(
     map: &[u8],

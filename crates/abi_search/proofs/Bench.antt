@@ -13,5 +13,6 @@ examples = record {
   P3 = refl;
   P5 = refl;
   P9 = refl;
+  front-3 = refl;
   declined = refl;
 }

@@ -2,10 +2,10 @@
 use mathlib.Core.Path.{_≡_}
 use mathlib.Core.List.{List, [], _∷_, _++_}
 use Rattle.circuit.specs.Bench.{A, B}
-use Rattle.map.specs.Bench.{adderBytes}
+use Rattle.map.specs.Bench.{adderBytes, four}
 use Rattle.state.specs.Bench.{memory}
 use Rattle.survey.specs.Bench.{clashBytes}
-use Rattle.search.specs.Bench.{down, up}
+use Rattle.search.specs.Bench.{notsBytes, down, up}
 use Rattle.search.specs.Move.{moving}
 use Rattle.search.specs.Run.{running}
 use Rattle.abi_state.specs.Bench.{three, five}
@@ -16,8 +16,9 @@ pub record Examples : Type 0 where
   pub P3-move : moveNumbers (moving adderBytes A (down 0) memory) three ≡ 3 ∷ 1 ∷ 170 ∷ []
   pub P9-move : moveNumbers (moving clashBytes (0 ∷ 0 ∷ 1 ∷ []) (down 0) memory) three ≡ 2 ∷ 2 ∷ 170 ∷ []
   pub no-front : moveNumbers (moving adderBytes B (down 0) memory) three ≡ three
-  -- "P3 .. Found, 1 move, 1 flip"; "P5 .. Spent, front 1"; "P9 .. two downs .. Spent, 3 flips, front 1"; a tape of one byte declines
+  -- "P3 .. Found, 1 move, 1 flip"; "P5 .. Spent, front 1"; "P9 .. two downs .. Spent, 3 flips, front 1"; a front of three; a tape of one byte declines
   pub P3 : runNumbers (running adderBytes A (down 0) memory memory) five ≡ 1 ∷ 1 ∷ 1 ∷ 0 ∷ 170 ∷ []
   pub P5 : runNumbers (running adderBytes A (up 0) memory memory) five ≡ 0 ∷ 1 ∷ 1 ∷ 1 ∷ 170 ∷ []
   pub P9 : runNumbers (running clashBytes (0 ∷ 0 ∷ 1 ∷ []) (down 0 ++ down 0) memory memory) five ≡ 0 ∷ 2 ∷ 3 ∷ 1 ∷ 170 ∷ []
+  pub front-3 : runNumbers (running notsBytes (four 1 1 1 1 (1 ∷ 1 ∷ [])) [] memory memory) five ≡ 0 ∷ 0 ∷ 0 ∷ 3 ∷ 170 ∷ []
   pub declined : runNumbers (running adderBytes A (0 ∷ []) memory memory) five ≡ five

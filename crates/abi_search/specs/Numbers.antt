@@ -1,10 +1,13 @@
 -- Where a host gets the numbers of Move's and Run's answers. Assumes nothing.
 use Prim.Native.Nat.{ℕ}
+use mathlib.Core.Path.{_≡_}
+use mathlib.Core.Logic.{_↔_}
+use mathlib.Core.Bool.{true}
 use mathlib.Core.List.{List, [], _∷_}
 use Rattle.circuit.specs.Tools.{byte}
 use Rattle.abi_state.specs.Numbers.{numbered}
-use Rattle.search.specs.Move.{Moving}
-use Rattle.search.specs.Run.{Running}
+use Rattle.search.specs.Move.{Moving, moving}
+use Rattle.search.specs.Run.{Running, running}
 
 -- Move "returns the drawn gate and how many values it turned"
 abbrev pub moveNumbers : Moving → List ℕ → List ℕ
@@ -13,3 +16,8 @@ moveNumbers r = numbered (r .accepted) (r .gate ∷ r .turned ∷ [])
 -- Run: 1 for Found and 0 for Spent, moves, flips, and the front's size
 abbrev pub runNumbers : Running → List ℕ → List ℕ
 runNumbers r = numbered (r .told .accepted) (byte (r .told .found) ∷ r .outcome .moves ∷ r .outcome .flips ∷ r .told .front ∷ [])
+
+-- they return 0 exactly where they are accepted
+pub record ZeroIsAccepted : Type 0 where
+  pub move-zero : (m s entry work : List ℕ) → (moving m s entry work .number ≡ 0) ↔ (moving m s entry work .accepted ≡ true)
+  pub run-zero : (m s tape work ans : List ℕ) → (running m s tape work ans .told .number ≡ 0) ↔ (running m s tape work ans .told .accepted ≡ true)

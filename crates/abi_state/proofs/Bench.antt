@@ -13,6 +13,7 @@ examples = record {
   counts-declined = refl;
   stretch = refl;
   stretch-input = refl;
+  stretch-input-behind = refl;
   stretch-past = refl;
   stretch-declined = refl;
   yes = refl;

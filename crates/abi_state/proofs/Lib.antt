@@ -1,3 +1,4 @@
 pub mod Places
 pub mod Stretches
+pub mod Zero
 pub mod Bench

@@ -4,7 +4,7 @@ use mathlib.Core.Path.{_≡_}
 use mathlib.Core.List.{List, [], _∷_}
 use lib.ListN.{take}
 use Rattle.circuit.specs.Bench.{A}
-use Rattle.map.specs.Bench.{adderBytes}
+use Rattle.map.specs.Bench.{adderBytes, gapBytes}
 use Rattle.map.specs.Check.{checked}
 use Rattle.state.specs.State.{marking}
 use Rattle.state.specs.Bench.{row101, values101}
@@ -23,9 +23,10 @@ pub record Examples : Type 0 where
   pub two-places : checkNumbers (checked adderBytes) (take 2 five) ≡ 8 ∷ 3 ∷ []
   pub no-place : checkNumbers (checked adderBytes) [] ≡ []
   pub counts-declined : checkNumbers (checked (take 67 adderBytes)) five ≡ five
-  -- gate 5's children stand in the bytes 52 to 55; an input's would stand at 44; past the end, and a declined map
+  -- gate 5's children stand in the bytes 52 to 55; an input's would stand at 44, and one's behind other gates where these end; past the end, and a declined map
   pub stretch : childrenNumbers adderBytes 5 three ≡ 52 ∷ 4 ∷ 170 ∷ []
   pub stretch-input : childrenNumbers adderBytes 1 three ≡ 44 ∷ 0 ∷ 170 ∷ []
+  pub stretch-input-behind : childrenNumbers gapBytes 2 three ≡ 30 ∷ 0 ∷ 170 ∷ []
   pub stretch-past : childrenNumbers adderBytes 8 three ≡ 0 ∷ 0 ∷ 170 ∷ []
   pub stretch-declined : childrenNumbers (take 67 adderBytes) 5 three ≡ 0 ∷ 0 ∷ 170 ∷ []
   -- yes, no, and declined

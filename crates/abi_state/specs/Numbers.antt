@@ -2,13 +2,14 @@
 -- numbers of an answer go. Assumes nothing.
 use Prim.Native.Nat.{ℕ, _<_, _≤_}
 use mathlib.Core.Path.{_≡_}
-use mathlib.Core.Bool.{Bool, cond}
+use mathlib.Core.Logic.{_↔_}
+use mathlib.Core.Bool.{Bool, true, cond}
 use mathlib.Core.List.{List, [], _∷_}
 use lib.ListN.{length, getD}
 use Rattle.circuit.specs.Tools.{byte}
-use Rattle.map.specs.Check.{Said}
+use Rattle.map.specs.Check.{Said, checked}
 use Rattle.map.specs.Children.{stretchAt, stretchLength}
-use Rattle.state.specs.State.{Marking}
+use Rattle.state.specs.State.{evaluation, Marking, marking}
 
 -- the numbers xs in the first places of the lent memory ns, as many as it has
 unfoldable pub placed : List ℕ → List ℕ → List ℕ
@@ -40,3 +41,9 @@ pub record Places (xs ns : List ℕ) : Type 0 where
 
 abbrev pub PlacedIs : Type 0
 PlacedIs = (xs ns : List ℕ) → Places xs ns
+
+-- Hosts go by the number that a call returns: it is 0 exactly where the call is accepted.
+pub record ZeroIsAccepted : Type 0 where
+  pub check-zero : (m : List ℕ) → (checked m .number ≡ 0) ↔ (checked m .accepted ≡ true)
+  pub evaluate-zero : (m row out : List ℕ) → (evaluation m row out .number ≡ 0) ↔ (evaluation m row out .accepted ≡ true)
+  pub mark-zero : (m s : List ℕ) → (marking m s .number ≡ 0) ↔ (marking m s .accepted ≡ true)

@@ -6,4 +6,4 @@ use Rattle.abi_survey.specs.Bench.{Examples}
 
 pub examples : Examples
 unfolding opened placed
-examples = record { P1 = refl; declined = refl }
+examples = record { P1 = refl; two-codes = refl; declined = refl }

@@ -42,11 +42,11 @@ fans-within m (suc n) g l = elim (eq-or-lt-of-le (le-of-suc-le-suc l)) [
 ]
 
 -- every place below the sum is in some gate's stretch
-fans-owner : (m : List ℕ) (n p : ℕ) → p < fanInsBefore m n → (g : ℕ) × (j : ℕ) × (g < n) × (j < fanIn m g) × (fanInsBefore m g + j ≡ p)
+fans-parent : (m : List ℕ) (n p : ℕ) → p < fanInsBefore m n → (g : ℕ) × (j : ℕ) × (g < n) × (j < fanIn m g) × (fanInsBefore m g + j ≡ p)
 unfolding fanInsBefore
-fans-owner m zero p l = absurd (omega arith)
-fans-owner m (suc n) p l = elim (which (ltb p (fanInsBefore m n))) [
-  | inl q ↦ (let (g, j, k, f, e) = fans-owner m n p (ltb-true _ _ q) in (g, j, omega arith, f, e))
+fans-parent m zero p l = absurd (omega arith)
+fans-parent m (suc n) p l = elim (which (ltb p (fanInsBefore m n))) [
+  | inl q ↦ (let (g, j, k, f, e) = fans-parent m n p (ltb-true _ _ q) in (g, j, omega arith, f, e))
   | inr q ↦ (let h = ltb-false p (fanInsBefore m n) q in (n, p - fanInsBefore m n, omega arith, omega arith, omega arith))
 ]
 
@@ -60,8 +60,8 @@ pub placed-of : (m : List ℕ) → Shaped m → positionsTest m ≡ true → Pla
 unfolding positionsTest positionTest
 placed-of m s t = record {
   shaped = s;
-  owner = λ p l.
-      let (g, j, k, f, e) = fans-owner m (gateCount m) p (omega (arith, eqb-true (fanInsBefore m (gateCount m)) (childCount m) (and-right _ _ t))) in
+  parent = λ p l.
+      let (g, j, k, f, e) = fans-parent m (gateCount m) p (omega (arith, eqb-true (fanInsBefore m (gateCount m)) (childCount m) (and-right _ _ t))) in
       record { gate = g; place = j; in-map = k; in-fan = f; is = omega (arith, eqb-true (firstChild m g) (fanInsBefore m g) (all-at (positionTest m) (gateCount m) g (and-left _ _ t) k)) };
   within = λ g l.
       omega (
@@ -176,11 +176,11 @@ abbrev pub freeChild : List ℕ → ℕ → Bool
 freeChild m p = not (coded (circuit m) (u16At m (childrenAt m + 2 * p)))
 
 pub child-in-map : (m : List ℕ) → Sound m → (p : ℕ) → p < childCount m → u16At m (childrenAt m + 2 * p) < gateCount m
-child-in-map m s p l = let o = s .placed .owner p l in rw (← o .is) (omega (arith, o .in-map, s .below (o .gate) (o .place) (o .in-map) (o .in-fan)))
+child-in-map m s p l = let o = s .placed .parent p l in rw (← o .is) (omega (arith, o .in-map, s .below (o .gate) (o .place) (o .in-map) (o .in-fan)))
 
 pub free-fails : (m : List ℕ) → Placed m → (p : ℕ) → p < childCount m → freeChild m p ≡ false → false ≡ allBelow (gateCount m) (freeTest m)
 unfolding freeTest
-free-fails m s p l e = let o = s .owner p l in
+free-fails m s p l e = let o = s .parent p l in
     fails-at _ (o .gate) _ (o .in-map) (all-fails _ _ (o .place) (o .in-fan) (rw (← o .is) at e))
 
 pub free-all : (m : List ℕ) → Placed m → allBelow (childCount m) (freeChild m) ≡ true → true ≡ allBelow (gateCount m) (freeTest m)

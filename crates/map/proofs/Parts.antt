@@ -87,10 +87,18 @@ module _ (m : List ℕ) (g : ℕ) where
     | inr h ↦ rw h
   ]
 
+  stretch-within : stretchAt m g + stretchLength m g ≤ length m
+  unfolding stretchAt stretchLength
+  stretch-within = elim (which (hasGate m g)) [
+    | inl h ↦ (let (v, l) = gate-of h in let p = facts m v .sound .placed in rw h (omega (arith, p .within g l, p .shaped .long)))
+    | inr h ↦ rw h (omega arith)
+  ]
+
 pub stretch-is : StretchIs
 stretch-is m g = record {
   place = λ v l. stretch-place m g (has-gate m g v l);
   long = λ v l. stretch-long m g (has-gate m g v l);
+  within = stretch-within m g;
   holds = λ v l. stretch-holds m g (has-gate m g v l);
   input = stretch-input m g;
   past-end = λ h. stretch-none m g (past-end m g h);

@@ -195,18 +195,18 @@ pub record Shaped (m : List ℕ) : Type 0 where
   pub few : gateCount m ≤ 1024
   pub long : length m ≡ lengthGiven m
 
--- child p of all is child `place` of gate `gate`
-pub record Owner (m : List ℕ) (p : ℕ) : Type 0 where
+-- child p of the whole map is child `place` of gate `gate`
+pub record Parent (m : List ℕ) (p : ℕ) : Type 0 where
   pub gate : ℕ
   pub place : ℕ
   pub in-map : gate < gateCount m
   pub in-fan : place < fanIn m gate
   pub is : firstChild m gate + place ≡ p
 
--- and of 5
+-- what is used of tests 1 to 3 and 5: every child has a parent, and no gate's children go past the last child
 pub record Placed (m : List ℕ) : Type 0 where
   pub shaped : Shaped m
-  pub owner : (p : ℕ) → p < childCount m → Owner m p
+  pub parent : (p : ℕ) → p < childCount m → Parent m p
   pub within : (g : ℕ) → g < gateCount m → firstChild m g + fanIn m g ≤ childCount m
 
 -- and of 6 and 7

@@ -33,11 +33,13 @@ stretchLength m g = cond (hasGate m g) (2 * fanIn m g) 0
 -- "Children hands back the stretch of the lent map that holds a gate's children, no copy; it is empty for an input, a gate number past the end or a map
 -- that Check declines"
 --     place, long                  at a gate of an accepted map it starts at the gate's first child and has two bytes for each child,
+--     within                       all of it in the map,
 --     holds                        which are its children in their order
 --     input, past-end, declined    where it is empty (an accepted input has fan-in 0)
 pub record Stretch (m : List ℕ) (g : ℕ) : Type 0 where
   pub place : verdict m ≡ 0 → g < gateCount m → stretchAt m g ≡ childrenAt m + 2 * firstChild m g
   pub long : verdict m ≡ 0 → g < gateCount m → stretchLength m g ≡ 2 * fanIn m g
+  pub within : stretchAt m g + stretchLength m g ≤ length m
   pub holds : verdict m ≡ 0 → g < gateCount m → (j : ℕ) → j < fanIn m g
       → u16At (take (stretchLength m g) (drop (stretchAt m g) m)) (2 * j) ≡ childAt m g j
   pub input : isInput (kindOf (kindByte m g)) ≡ true → stretchLength m g ≡ 0
