@@ -1,5 +1,6 @@
 //! The independent engine: check, children, evaluate, mark, survey, move, run
-//! and the program, written straight from document 01 and from nothing else.
+//! and the program, written straight from document 01. (The place of an empty
+//! stretch of children, which it leaves open, is the C header's.)
 //!
 //! It is slow and plain on purpose. Every offset, count and length is a whole
 //! number (u64) that cannot wrap, and every numbered test is a function of its

@@ -1,4 +1,4 @@
-//! The independent engine, written from documents 00 and 01 alone, and what makes cases for it and for the proved one.
+//! The independent engine, written from documents 00 and 01, and what makes cases for it and for the proved one.
 
 pub mod dice;
 pub mod engine;
