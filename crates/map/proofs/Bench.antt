@@ -5,7 +5,8 @@ use Rattle.folds.specs.Folds.{_and_, _or_, allBelow}
 use Rattle.circuit.specs.Evaluate.{inputsBefore}
 use Rattle.circuit.specs.Bench.{adder}
 use Rattle.map.specs.Map.{u16At, fanInsBefore, codeAmong, kidsOf}
-use Rattle.map.specs.Check.{offsetsTest, kindFits, kindTest, positionTest, positionsTest, childTest, childrenTest, codeTest, freeTest, firstFailed, contentsTests, bodiesTests, mapTests, verdict, checked}
+use Rattle.kinds.specs.Kinds.{kindFits}
+use Rattle.map.specs.Check.{offsetsTest, kindTest, positionTest, positionsTest, childTest, childrenTest, codeTest, freeTest, firstFailed, contentsTests, bodiesTests, mapTests, verdict, checked}
 use Rattle.map.specs.Children.{hasGate, stretchAt, stretchLength}
 use Rattle.map.specs.Bench.{adderBytes, gapBytes, twoCodesBytes, wideBytes, Examples}
 

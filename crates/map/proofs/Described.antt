@@ -20,8 +20,10 @@ use Rattle.circuit.proofs.Values.{on-byte, bit-byte}
 use Rattle.circuit.proofs.Survey.{lists-set}
 use Rattle.circuit.proofs.Source001.{gate-zero}
 use Rattle.map.specs.Map.{gateCount, codeCount, kindByte, fanIn, childAt, codeGate, kidsOf, circuit}
-use Rattle.map.specs.Check.{offsetsTest, kindFits, kindTest, positionTest, positionsTest, childTest, childrenTest, codeTest, freeTest, firstFailed, contentsTests, bodiesTests, mapTests, verdict, checked, Laid, Summed, Ordered, CodesAllowed, Described, MapAccepts, Test, passes, fails, MapNumber, CheckNumber, CheckAccepts, CheckSays, CheckDeclines, AcceptedMaps}
-use Rattle.map.proofs.Laws.{gate-kind, past, stop, no-test, contents-tests}
+use Rattle.kinds.specs.Kinds.{kindFits}
+use Rattle.map.specs.Check.{offsetsTest, kindTest, positionTest, positionsTest, childTest, childrenTest, codeTest, freeTest, firstFailed, contentsTests, bodiesTests, mapTests, verdict, checked, Laid, Summed, Ordered, CodesAllowed, Described, MapAccepts, Test, passes, fails, MapNumber, CheckNumber, CheckAccepts, CheckSays, CheckDeclines, AcceptedMaps}
+use Rattle.kinds.proofs.Bytes.{gate-kind}
+use Rattle.map.proofs.Laws.{past, stop, no-test, contents-tests}
 use Rattle.map.proofs.Accepted.{ascends, contents, bodies-tests, facts, kids-length, well-formed}
 use Rattle.map.proofs.Codes.{code-record, code-found, code-none}
 

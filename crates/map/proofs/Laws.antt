@@ -2,7 +2,7 @@
 use Prim.Native.Nat.{ℕ, zero, suc, _+_, _*_, _-_, _<_, _≤_}
 use mathlib.Core.Path.{_≡_, refl, sym, _∙_}
 use mathlib.Core.Bool.{Bool, true, false, not}
-use mathlib.Core.Logic.{_⊎_, inl, inr}
+use mathlib.Core.Logic.{inl, inr}
 use mathlib.Core.List.{List, [], _∷_, _++_}
 use native.Mathlib.Nat.{le-of-suc-le-suc, eq-or-lt-of-le}
 use native.Mathlib.Numerals.{add-one}
@@ -15,7 +15,7 @@ use Rattle.folds.specs.Folds.{_and_, _or_, allBelow}
 use Rattle.folds.proofs.Tests.{which, and-left, and-right}
 use Rattle.folds.proofs.Loops.{all-at, all-of, all-fails, fails-at}
 use Rattle.circuit.specs.Tools.{byte}
-use Rattle.circuit.specs.Gate.{Not, Xor, isInput, kindOf}
+use Rattle.circuit.specs.Gate.{isInput, kindOf}
 use Rattle.circuit.specs.Circuit.{coded}
 use Rattle.circuit.specs.Evaluate.{inputsBefore}
 use Rattle.circuit.proofs.Lists.{place-more}
@@ -95,24 +95,6 @@ none-failed k false ts e = absurd (omega arith)
 
 -- ---- the inputs
 
-pub input-kind : (k : ℕ) → k ≡ 0 → isInput (kindOf k) ≡ true
-input-kind k e = rw e
-
-pub gate-kind : (k : ℕ) → (k ≡ 0 → ⊥) → isInput (kindOf k) ≡ false
-gate-kind zero h = absurd (h refl)
-gate-kind (suc zero) h = refl
-gate-kind (suc (suc zero)) h = refl
-gate-kind (suc (suc (suc zero))) h = refl
-gate-kind (suc (suc (suc (suc k)))) h = refl
-
--- the kinds that code has no case for
-pub not-or-xor : (k : ℕ) → (k ≡ 0 → ⊥) → (k ≡ 2 → ⊥) → (k ≡ 3 → ⊥) → (kindOf k ≡ Not) ⊎ (kindOf k ≡ Xor)
-not-or-xor zero a b d = absurd (a refl)
-not-or-xor (suc zero) a b d = inl refl
-not-or-xor (suc (suc zero)) a b d = absurd (b refl)
-not-or-xor (suc (suc (suc zero))) a b d = absurd (d refl)
-not-or-xor (suc (suc (suc (suc k)))) a b d = inr refl
-
 pub inputs-none : (m : List ℕ) → 0 ≡ inputsBefore (circuit m) 0
 unfolding inputsBefore
 inputs-none m = refl
@@ -154,11 +136,13 @@ mark-some m marks x k h = marked (coded (circuit m) x) (λ q. h (k x ∙ q))
 
 -- ---- test 7 at a code, by what the code reads
 
-pub code-test : (m : List ℕ) (r start x n : ℕ) → start ≡ codesAt m → x ≡ codeGate m r → n ≡ gateCount m
-    → codeTest m r
-    ≡ (ltb x n and (eqb r 0 or ltb (codeGate m (r - 1)) x) and leb (getD m (start + 4 * r + 2) 0) 1 and eqb (getD m (start + 4 * r + 3) 0) 0)
+abbrev pub codeTestBy : List ℕ → ℕ → ℕ → ℕ → ℕ → Bool
+codeTestBy m n start r x =
+    ltb x n and (eqb r 0 or ltb (codeGate m (r - 1)) x) and leb (getD m (start + 4 * r + 2) 0) 1 and eqb (getD m (start + 4 * r + 3) 0) 0
+
+pub code-test : (m : List ℕ) (n start r x : ℕ) → n ≡ gateCount m → start ≡ codesAt m → x ≡ codeGate m r → codeTest m r ≡ codeTestBy m n start r x
 unfolding codeTest
-code-test m r start x n p q s = rw (p, q, s)
+code-test m n start r x s p q = rw (p, q, s)
 
 -- ---- all tests
 

@@ -4,6 +4,4 @@ pub mod Parts
 pub mod Answers
 pub mod Codes
 pub mod Described
-pub mod Count
-pub mod Options
 pub mod Bench

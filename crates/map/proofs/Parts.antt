@@ -12,7 +12,8 @@ use denote.Ref.{RefT}
 use Rattle.folds.proofs.Tests.{which, and-left, and-right, and-both, and-first-false, and-second-false}
 use Rattle.circuit.specs.Gate.{isInput, kindOf}
 use Rattle.map.specs.Map.{u16At, gateCount, childrenAt, kindByte, fanIn, firstChild, childAt}
-use Rattle.map.specs.Check.{kindFits, kindTest, verdict}
+use Rattle.kinds.specs.Kinds.{kindFits}
+use Rattle.map.specs.Check.{kindTest, verdict}
 use Rattle.map.specs.Children.{PartOf, hasGate, stretchAt, stretchLength, StretchIs}
 use Rattle.map.proofs.Accepted.{facts}
 

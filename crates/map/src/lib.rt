@@ -1,6 +1,5 @@
 // Maps: Check, and the children of a gate.
 pub mod decode;
-pub mod kinds;
 mod tests;
 
 ghost use mathlib.Core.Path.{_≡_};
@@ -37,12 +36,11 @@ pub fn children(map: &[u8], gate: usize) -> &[u8]
     if tests::failed(map) != 0 {
         return &map[0..0];
     }
-    let gates = decode::word(map, 2);
-    if gates <= gate {
+    let n = decode::read_contents(map);
+    if n.gates <= gate {
         return &map[0..0];
     }
-    let first = decode::word(map, 14 + 4 * gate);
-    let a = 12 + 4 * gates + 2 * first;
-    let e = a + 2 * decode::wide(map[13 + 4 * gate]);
+    let a = decode::child_place(n.gates, decode::first_child(map, gate));
+    let e = a + 2 * decode::fan_in(map, gate);
     &map[a..e]
 }

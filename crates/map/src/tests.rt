@@ -1,41 +1,42 @@
 // The tests 1 to 8 of a map, each over all it concerns before the next.
 use super::decode;
-use super::kinds;
+use super::decode::Contents;
 ghost use mathlib.Core.Path.{_≡_};
 ghost use mathlib.Core.Bool.{true};
-ghost use Prim.Native.Nat.{_+_, _*_, _-_, _<_, _≤_};
+ghost use Prim.Native.Nat.{_-_, _<_, _≤_};
 ghost use lib.ListN.{length};
 ghost use lib.Dec.{eqb, ltb};
 ghost use Rattle.folds.specs.Folds.{_or_, allBelow};
-ghost use Rattle.map.specs.Map.{gateCount, childCount, codeCount, codesAt, fanIn, codeGate};
+ghost use Rattle.map.specs.Map.{gateCount, codeCount, codesAt, fanIn, codeGate};
 ghost use Rattle.map.specs.Check.{offsetsTest, kindTest, positionsTest, childTest, childrenTest, codeTest, freeTest};
-ghost use Rattle.map.specs.Check.{firstFailed, contentsTests, bodiesTests, verdict, Shaped, Placed, Sound, CodeMarks};
+ghost use Rattle.map.specs.Check.{firstFailed, contentsTests, bodiesTests, verdict, ContentsOf, Shaped, Placed, Sound, CodeMarks};
 
 // Test 3.
-fn offsets_ok(map: &[u8]) -> bool
+fn offsets_ok(map: &[u8], n: Contents) -> bool
     requires { ⌜ 12 ≤ length (now map) ⌝ }
+    requires { ⌜ ContentsOf (now map) n ⌝ }
     ensures { λ r. ⌜ r ≡ offsetsTest (now (map .entry)) ⌝ }
 {
-    let children = 12 + 4 * decode::word(map, 2);
-    let codes = children + 2 * decode::word(map, 6);
-    let end = codes + 4 * decode::word(map, 10);
+    let codes = decode::child_place(n.gates, n.children);
     if decode::word(map, 0) != 12 {
         return false;
     }
-    if decode::word(map, 4) != children {
+    if decode::word(map, 4) != decode::child_place(n.gates, 0) {
         return false;
     }
     if decode::word(map, 8) != codes {
         return false;
     }
-    map.len() == end
+    map.len() == codes + 4 * n.codes
 }
 
 // Test 4.
-fn kinds_ok(map: &[u8], gates: usize) -> bool
-    requires { ⌜ Shaped (now map) × (gates ≡ gateCount (now map)) ⌝ }
+fn kinds_ok(map: &[u8], n: Contents) -> bool
+    requires { ⌜ ContentsOf (now map) n ⌝ }
+    requires { ⌜ Shaped (now map) ⌝ }
     ensures { λ r. ⌜ r ≡ allBelow (gateCount (now (map .entry))) (kindTest (now (map .entry))) ⌝ }
 {
+    let gates = n.gates;
     let mut g = 0;
     while g < gates {
         if !kinds::fits(map[12 + 4 * g], map[13 + 4 * g]) {
@@ -47,46 +48,50 @@ fn kinds_ok(map: &[u8], gates: usize) -> bool
 }
 
 // Test 5.
-fn positions_ok(map: &[u8], gates: usize, children: usize) -> bool
-    requires { ⌜ Shaped (now map) × ((gates ≡ gateCount (now map)) × (children ≡ childCount (now map))) ⌝ }
+fn positions_ok(map: &[u8], n: Contents) -> bool
+    requires { ⌜ ContentsOf (now map) n ⌝ }
+    requires { ⌜ Shaped (now map) ⌝ }
     ensures { λ r. ⌜ r ≡ positionsTest (now (map .entry)) ⌝ }
 {
+    let gates = n.gates;
     let mut sum = 0;
     let mut g = 0;
     while g < gates {
-        if decode::word(map, 14 + 4 * g) != sum {
+        if decode::first_child(map, g) != sum {
             return false;
         }
-        sum += decode::wide(map[13 + 4 * g]);
+        sum += decode::fan_in(map, g);
         g += 1;
     }
-    sum == children
+    sum == n.children
 }
 
 // Test 6 at child j of gate g.
-fn child_ok(map: &[u8], gates: usize, g: usize, j: usize) -> bool
-    requires { ⌜ Placed (now map) × ((gates ≡ gateCount (now map)) × ((g < gates) × (j < fanIn (now map) g))) ⌝ }
+fn child_ok(map: &[u8], n: Contents, g: usize, j: usize) -> bool
+    requires { ⌜ ContentsOf (now map) n ⌝ }
+    requires { ⌜ Placed (now map) × ((g < n .gates) × (j < fanIn (now map) g)) ⌝ }
     ensures { λ r. ⌜ r ≡ childTest (now (map .entry)) g j ⌝ }
 {
-    let x = decode::child(map, gates, g, j);
+    let x = decode::child(map, n.gates, g, j);
     if g <= x {
         return false;
     }
     if j == 0 {
         return true;
     }
-    decode::child(map, gates, g, j - 1) < x
+    decode::child(map, n.gates, g, j - 1) < x
 }
 
 // Test 6 at gate g.
-fn children_ok(map: &[u8], gates: usize, g: usize) -> bool
-    requires { ⌜ Placed (now map) × ((gates ≡ gateCount (now map)) × (g < gates)) ⌝ }
+fn children_ok(map: &[u8], n: Contents, g: usize) -> bool
+    requires { ⌜ ContentsOf (now map) n ⌝ }
+    requires { ⌜ Placed (now map) × (g < n .gates) ⌝ }
     ensures { λ r. ⌜ r ≡ childrenTest (now (map .entry)) g ⌝ }
 {
-    let f = decode::wide(map[13 + 4 * g]);
+    let f = decode::fan_in(map, g);
     let mut j = 0;
     while j < f {
-        if !child_ok(map, gates, g, j) {
+        if !child_ok(map, n, g, j) {
             return false;
         }
         j += 1;
@@ -95,13 +100,15 @@ fn children_ok(map: &[u8], gates: usize, g: usize) -> bool
 }
 
 // Test 6.
-fn all_children_ok(map: &[u8], gates: usize) -> bool
-    requires { ⌜ Placed (now map) × (gates ≡ gateCount (now map)) ⌝ }
+fn all_children_ok(map: &[u8], n: Contents) -> bool
+    requires { ⌜ ContentsOf (now map) n ⌝ }
+    requires { ⌜ Placed (now map) ⌝ }
     ensures { λ r. ⌜ r ≡ allBelow (gateCount (now (map .entry))) (childrenTest (now (map .entry))) ⌝ }
 {
+    let gates = n.gates;
     let mut g = 0;
     while g < gates {
-        if !children_ok(map, gates, g) {
+        if !children_ok(map, n, g) {
             return false;
         }
         g += 1;
@@ -121,12 +128,14 @@ fn code_ascends(map: &[u8], start: usize, r: usize, x: usize) -> bool
 }
 
 // Test 7 at code r.
-fn code_ok(map: &[u8], gates: usize, start: usize, r: usize) -> bool
-    requires { ⌜ Shaped (now map) × ((gates ≡ gateCount (now map)) × ((start ≡ codesAt (now map)) × (r < codeCount (now map)))) ⌝ }
+fn code_ok(map: &[u8], n: Contents, r: usize) -> bool
+    requires { ⌜ ContentsOf (now map) n ⌝ }
+    requires { ⌜ Shaped (now map) × (r < n .codes) ⌝ }
     ensures { λ r'. ⌜ r' ≡ codeTest (now (map .entry)) r ⌝ }
 {
+    let start = decode::child_place(n.gates, n.children);
     let x = decode::code_gate(map, start, r);
-    if gates <= x {
+    if n.gates <= x {
         return false;
     }
     if !code_ascends(map, start, r, x) {
@@ -140,13 +149,15 @@ fn code_ok(map: &[u8], gates: usize, start: usize, r: usize) -> bool
 }
 
 // Test 7.
-fn codes_ok(map: &[u8], gates: usize, start: usize, codes: usize) -> bool
-    requires { ⌜ Shaped (now map) × ((gates ≡ gateCount (now map)) × ((start ≡ codesAt (now map)) × (codes ≡ codeCount (now map)))) ⌝ }
+fn codes_ok(map: &[u8], n: Contents) -> bool
+    requires { ⌜ ContentsOf (now map) n ⌝ }
+    requires { ⌜ Shaped (now map) ⌝ }
     ensures { λ r. ⌜ r ≡ allBelow (codeCount (now (map .entry))) (codeTest (now (map .entry))) ⌝ }
 {
+    let codes = n.codes;
     let mut r = 0;
     while r < codes {
-        if !code_ok(map, gates, start, r) {
+        if !code_ok(map, n, r) {
             return false;
         }
         r += 1;
@@ -155,14 +166,16 @@ fn codes_ok(map: &[u8], gates: usize, start: usize, codes: usize) -> bool
 }
 
 // Test 8, with the coded gates marked: over all children, whosever they are.
-fn all_free(map: &[u8], gates: usize, children: usize, marks: &[u8]) -> bool
-    requires { ⌜ Sound (now map) × ((gates ≡ gateCount (now map)) × (children ≡ childCount (now map))) ⌝ }
-    requires { ⌜ (1024 ≤ length (now marks)) × CodeMarks (now map) (codeCount (now map)) (now marks) ⌝ }
+fn all_free(map: &[u8], n: Contents, marks: &[u8]) -> bool
+    requires { ⌜ ContentsOf (now map) n ⌝ }
+    requires { ⌜ Sound (now map) × ((1024 ≤ length (now marks)) × CodeMarks (now map) (codeCount (now map)) (now marks)) ⌝ }
     ensures { λ r. ⌜ r ≡ allBelow (gateCount (now (map .entry))) (freeTest (now (map .entry))) ⌝ }
 {
+    let gates = n.gates;
+    let children = n.children;
     let mut p = 0;
     while p < children {
-        let x = decode::child_from(map, gates, p, 0);
+        let x = decode::any_child(map, gates, p);
         if marks[x] != 0 {
             return false;
         }
@@ -172,14 +185,14 @@ fn all_free(map: &[u8], gates: usize, children: usize, marks: &[u8]) -> bool
 }
 
 // Test 8.
-fn free_ok(map: &[u8], gates: usize, children: usize, start: usize, codes: usize) -> bool
-    requires { ⌜ Sound (now map) × ((gates ≡ gateCount (now map)) × (children ≡ childCount (now map))) ⌝ }
-    requires { ⌜ (start ≡ codesAt (now map)) × (codes ≡ codeCount (now map)) ⌝ }
+fn free_ok(map: &[u8], n: Contents) -> bool
+    requires { ⌜ ContentsOf (now map) n ⌝ }
+    requires { ⌜ Sound (now map) ⌝ }
     ensures { λ r. ⌜ r ≡ allBelow (gateCount (now (map .entry))) (freeTest (now (map .entry))) ⌝ }
 {
     let mut marks = [0u8; 1024];
-    decode::mark_codes(map, start, codes, &mut marks);
-    all_free(map, gates, children, &marks)
+    decode::mark_codes(map, decode::child_place(n.gates, n.children), n.codes, &mut marks);
+    all_free(map, n, &marks)
 }
 
 // The first of the tests 1 to 3 that fails, or 0.
@@ -189,38 +202,38 @@ fn contents_failed(map: &[u8]) -> u8
     if map.len() < 12 {
         return 1;
     }
-    let gates = decode::word(map, 2);
-    if gates == 0 {
+    let n = decode::read_contents(map);
+    if n.gates == 0 {
         return 2;
     }
-    if 1024 < gates {
+    if 1024 < n.gates {
         return 2;
     }
-    if !offsets_ok(map) {
+    if !offsets_ok(map, n) {
         return 3;
     }
     0
 }
 
 // The first of the tests 4 to 8 that fails, or 0.
-fn bodies_failed(map: &[u8], gates: usize, children: usize, codes: usize) -> u8
-    requires { ⌜ Shaped (now map) × ((gates ≡ gateCount (now map)) × ((children ≡ childCount (now map)) × (codes ≡ codeCount (now map)))) ⌝ }
+fn bodies_failed(map: &[u8], n: Contents) -> u8
+    requires { ⌜ ContentsOf (now map) n ⌝ }
+    requires { ⌜ Shaped (now map) ⌝ }
     ensures { λ r. ⌜ r ≡ firstFailed (bodiesTests (now (map .entry))) ⌝ }
 {
-    let start = 12 + 4 * gates + 2 * children;
-    if !kinds_ok(map, gates) {
+    if !kinds_ok(map, n) {
         return 4;
     }
-    if !positions_ok(map, gates, children) {
+    if !positions_ok(map, n) {
         return 5;
     }
-    if !all_children_ok(map, gates) {
+    if !all_children_ok(map, n) {
         return 6;
     }
-    if !codes_ok(map, gates, start, codes) {
+    if !codes_ok(map, n) {
         return 7;
     }
-    if !free_ok(map, gates, children, start, codes) {
+    if !free_ok(map, n) {
         return 8;
     }
     0
@@ -234,10 +247,5 @@ pub fn failed(map: &[u8]) -> u8
     if number != 0 {
         return number;
     }
-    bodies_failed(
-        map,
-        decode::word(map, 2),
-        decode::word(map, 6),
-        decode::word(map, 10),
-    )
+    bodies_failed(map, decode::read_contents(map))
 }

@@ -20,7 +20,7 @@ use Rattle.circuit.proofs.Turns.{option-few}
 use Rattle.map.specs.Map.{gateCount, kindByte, fanIn, childAt, kidsOf, circuit}
 use Rattle.map.specs.Check.{IsMap}
 use Rattle.map.proofs.Accepted.{well-formed}
-use Rattle.map.proofs.Options.{options-by}
+use Rattle.kinds.proofs.ByPlace.{options-by}
 use Rattle.state.proofs.Filling.{store}
 use Rattle.search.proofs.Best.{some-best, best-below}
 use Rattle.search.specs.Options.{optionsOf, optionHas, optionUpTo, optionGates, bests, bestAt, weightsOf}

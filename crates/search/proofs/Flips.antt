@@ -17,7 +17,7 @@ use Rattle.circuit.specs.Run.{turn}
 use Rattle.circuit.proofs.Lists.{map-append, in-upTo, select-in, select-append, place-more}
 use Rattle.circuit.proofs.Turns.{turn-out}
 use Rattle.map.specs.Map.{gateCount, kindByte, fanIn, childAt}
-use Rattle.map.specs.Kinds.{optionTurns}
+use Rattle.kinds.specs.Kinds.{optionTurns}
 use Rattle.map.specs.Check.{IsMap}
 use Rattle.map.proofs.Accepted.{steps}
 use Rattle.search.specs.Options.{optionHas, optionUpTo}

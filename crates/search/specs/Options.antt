@@ -11,7 +11,7 @@ use Rattle.circuit.specs.Circuit.{on}
 use Rattle.circuit.specs.Survey.{interestSize}
 use Rattle.circuit.specs.Run.{turn}
 use Rattle.map.specs.Map.{kindByte, fanIn, childAt, circuit}
-use Rattle.map.specs.Kinds.{optionCount, optionTurns}
+use Rattle.kinds.specs.Kinds.{optionCount, optionTurns}
 
 -- the gates that marks of cone and front show in the front, by rising number
 unfoldable pub frontBy : List ℕ → List ℕ

@@ -1,6 +1,5 @@
 // The value that its children give a gate.
 use map::decode;
-use map::kinds;
 ghost use mathlib.Core.Path.{_≡_};
 ghost use Prim.Native.Nat.{_+_, _<_, _≤_};
 ghost use lib.ListN.{length};

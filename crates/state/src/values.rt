@@ -2,7 +2,6 @@
 use super::Written;
 use super::gates;
 use map::decode;
-use map::kinds;
 ghost use mathlib.Core.Path.{_≡_};
 ghost use mathlib.Core.Logic.{_⊎_};
 ghost use mathlib.Core.Bool.{cond};

@@ -4,7 +4,7 @@ use mathlib.Core.Path.{_≡_}
 use mathlib.Core.Bool.{true, false}
 use Rattle.circuit.specs.Gate.{isInput, kindOf}
 use Rattle.map.specs.Map.{kindByte}
-use Rattle.map.proofs.Laws.{input-kind, gate-kind}
+use Rattle.kinds.proofs.Bytes.{input-kind, gate-kind}
 use Rattle.line.specs.Line.{inputText}
 use Rattle.line.proofs.Writing.{wrote-nothing}
 use borrow.Author.Needs.{needs}

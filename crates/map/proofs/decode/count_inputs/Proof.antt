@@ -10,7 +10,7 @@ use Rattle.map.proofs.decode.count_inputs.Statement.{statement}
 use Rattle.map.proofs.decode.count_inputs.Tie as tie
 use Rattle.map.proofs.decode.count_inputs.Reads as reads
 use Rattle.map.proofs.decode.count_inputs.Lts as lts
-use Rattle.map.proofs.kinds.input_bit.Reads as input-bit-reads
+use Rattle.kinds.proofs.input_bit.Reads as input-bit-reads
 
 abbrev Inv-loop : tie.InvT-loop
 Inv-loop map gates count₀ g₀ count g = (g ≤ gates) × ((count ≡ inputsBefore (circuit map) g) × (count ≤ g))

@@ -18,20 +18,20 @@ use Rattle.map.proofs.tests.kinds_ok.Reads as kinds-ok-reads
 use Rattle.map.proofs.tests.positions_ok.Reads as positions-ok-reads
 
 -- what the tests that passed say
-four : (c : tie.Else1) → allBelow (gateCount (now (c .before .before .before .args .map))) (kindTest (now (c .before .before .before .args .map))) ≡ true
+four : (c : tie.Else1) → let s : tie.Start = search in allBelow (gateCount (now (s .args .map))) (kindTest (now (s .args .map))) ≡ true
 four c = flag-true _ _ (c .if1 .left) (c .before .kinds-ok .ensures)
 
-five : (c : tie.Else2) → positionsTest (now (c .before .before .before .before .before .args .map)) ≡ true
+five : (c : tie.Else2) → let s : tie.Start = search in positionsTest (now (s .args .map)) ≡ true
 five c = flag-true _ _ (c .if2 .left) (c .before .positions-ok .ensures)
 
-six : (c : tie.Else3) → allBelow (gateCount (now (c .before .before .before .before .before .before .before .args .map))) (childrenTest (now (c .before .before .before .before .before .before .before .args .map))) ≡ true
+six : (c : tie.Else3) → let s : tie.Start = search in allBelow (gateCount (now (s .args .map))) (childrenTest (now (s .args .map))) ≡ true
 six c = flag-true _ _ (c .if3 .left) (c .before .all-children-ok .ensures)
 
-seven : (c : tie.Else4) → allBelow (codeCount (now (c .before .before .before .before .before .before .before .before .before .args .map))) (codeTest (now (c .before .before .before .before .before .before .before .before .before .args .map))) ≡ true
+seven : (c : tie.Else4) → let s : tie.Start = search in allBelow (codeCount (now (s .args .map))) (codeTest (now (s .args .map))) ≡ true
 seven c = flag-true _ _ (c .if4 .left) (c .before .codes-ok .ensures)
 
-placed : (c : tie.Else2) → Placed (now (c .before .before .before .before .before .args .map))
-placed c = placed-of _ (c .before .before .before .before .before .pre .0) (five c)
+placed : (c : tie.Else2) → let s : tie.Start = search in Placed (now (s .args .map))
+placed c = let s : tie.Start = search in placed-of _ (s .pre .1) (five c)
 
 returns : tie.Need-returns
 unfolding bodiesTests firstFailed
@@ -39,38 +39,34 @@ returns c = rw (flag-false _ _ (c .if1 .taken) (c .before .kinds-ok .ensures))
 
 returns-2 : tie.Need-returns-2
 unfolding bodiesTests firstFailed
-returns-2 c = rw (four (c .before .before), flag-false _ _ (c .if2 .taken) (c .before .positions-ok .ensures))
+returns-2 c = rw (four (search), flag-false _ _ (c .if2 .taken) (c .before .positions-ok .ensures))
 
 all-children-ok-requires : tie.Need-all-children-ok-requires
-all-children-ok-requires c κs = (placed c, c .before .before .before .before .before .pre .1 .0)
+all-children-ok-requires c κs = let s : tie.Start = search in (s .pre .0, placed c)
 
 returns-3 : tie.Need-returns-3
 unfolding bodiesTests firstFailed
-returns-3 c = rw (four (c .before .before .before .before), five (c .before .before), flag-false _ _ (c .if3 .taken) (c .before .all-children-ok .ensures))
+returns-3 c = rw (four (search), five (search), flag-false _ _ (c .if3 .taken) (c .before .all-children-ok .ensures))
 
 returns-4 : tie.Need-returns-4
 unfolding bodiesTests firstFailed
-returns-4 c = rw (four (c .before .before .before .before .before .before), five (c .before .before .before .before), six (c .before .before), flag-false _ _ (c .if4 .taken) (c .before .codes-ok .ensures))
+returns-4 c = rw (four (search), five (search), six (search), flag-false _ _ (c .if4 .taken) (c .before .codes-ok .ensures))
 
 free-ok-requires : tie.Need-free-ok-requires
-free-ok-requires c κs = ((sound-of _ (placed (c .before .before .before .before)) (six (c .before .before)) (seven c), search needs), search needs)
+free-ok-requires c κs = let s : tie.Start = search in (s .pre .0, sound-of _ (placed (search)) (six (search)) (seven c))
 
 returns-5 : tie.Need-returns-5
 unfolding bodiesTests firstFailed
-returns-5 c = rw (four (c .before .before .before .before .before .before .before .before), five (c .before .before .before .before .before .before), six (c .before .before .before .before), seven (c .before .before), flag-false _ _ (c .if5 .taken) (c .before .free-ok .ensures))
+returns-5 c = rw (four (search), five (search), six (search), seven (search), flag-false _ _ (c .if5 .taken) (c .before .free-ok .ensures))
 
 returns-6 : tie.Need-returns-6
 unfolding bodiesTests firstFailed
-returns-6 c = rw (four (c .before .before .before .before .before .before .before .before), five (c .before .before .before .before .before .before), six (c .before .before .before .before), seven (c .before .before), flag-true _ _ (c .if5 .left) (c .before .free-ok .ensures))
+returns-6 c = rw (four (search), five (search), six (search), seven (search), flag-true _ _ (c .if5 .left) (c .before .free-ok .ensures))
 
 pub bodies-failed-spec : {M : Type 1} → statement M
 bodies-failed-spec =
     tie.close
     (tie.spec
-    (λ c. search needs)
-    (λ c. search needs)
-    (λ c. search needs)
-    (λ c. search needs)
     (λ c κs. search needs)
     returns
     (λ c κs. search needs)

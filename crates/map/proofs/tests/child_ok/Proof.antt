@@ -13,11 +13,15 @@ returns c = rw (← c .before .child .ensures .0) (search bools)
 
 returns-2 : tie.Need-returns-2
 unfolding childTest
-returns-2 c = rw (← c .before .before .child .ensures .0) (search bools)
+returns-2 c =
+    let x : tie.After-child = search in
+    rw (← x .child .ensures .0) (search bools)
 
 returns-3 : tie.Need-returns-3
 unfolding childTest
-returns-3 c = rw (← c .before .before .before .child .ensures .0, ← c .child2 .ensures .0) (search bools)
+returns-3 c =
+    let x : tie.After-child = search in
+    rw (← x .child .ensures .0, ← c .child2 .ensures .0) (search bools)
 
 pub child-ok-spec : {M : Type 1} → statement M
 child-ok-spec =

@@ -12,10 +12,10 @@ use Rattle.map.proofs.tests.codes_ok.Lts as lts
 use Rattle.map.proofs.tests.code_ok.Reads as code-ok-reads
 
 abbrev Inv-loop : tie.InvT-loop
-Inv-loop map gates start codes r₀ r = (r ≤ codes) × (allBelow r (codeTest map) ≡ true)
+Inv-loop map n codes r₀ r = (r ≤ codes) × (allBelow r (codeTest map) ≡ true)
 
 abbrev μ-loop : tie.MeasureT-loop
-μ-loop map gates start codes r₀ r = codes - r
+μ-loop map n codes r₀ r = codes - r
 
 pub codes-ok-spec : {M : Type 1} → statement M
 codes-ok-spec =

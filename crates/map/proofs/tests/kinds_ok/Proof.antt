@@ -9,7 +9,7 @@ use Rattle.map.proofs.tests.kinds_ok.Statement.{statement}
 use Rattle.map.proofs.tests.kinds_ok.Tie as tie
 use Rattle.map.proofs.tests.kinds_ok.Reads as reads
 use Rattle.map.proofs.tests.kinds_ok.Lts as lts
-use Rattle.map.proofs.kinds.fits.Reads as fits-reads
+use Rattle.kinds.proofs.fits.Reads as fits-reads
 
 abbrev Inv-loop : tie.InvT-loop
 Inv-loop map gates g₀ g = (g ≤ gates) × (allBelow g (kindTest map) ≡ true)

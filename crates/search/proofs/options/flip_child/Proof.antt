@@ -1,6 +1,6 @@
 use Rattle.circuit.specs.Gate.{kindOf}
 use Rattle.circuit.specs.Circuit.{on}
-use Rattle.map.specs.Kinds.{optionTurns}
+use Rattle.kinds.specs.Kinds.{optionTurns}
 use denote.Ref.{now}
 use native.Mathlib.Omega.{arith}
 use mathlib.Core.Path.{_≡_, sym, _∙_}

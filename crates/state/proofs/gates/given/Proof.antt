@@ -6,7 +6,7 @@ use Rattle.circuit.specs.Tools.{upTo}
 use Rattle.circuit.specs.Circuit.{on}
 use Rattle.circuit.proofs.Lists.{select-length, length-upTo}
 use Rattle.map.specs.Map.{fanIn, childAt}
-use Rattle.map.proofs.Count.{given-count}
+use Rattle.state.proofs.Given.{given-count}
 use borrow.Author.Needs.{needs}
 use Rattle.state.proofs.gates.given.Statement.{statement}
 use Rattle.state.proofs.gates.given.Tie as tie

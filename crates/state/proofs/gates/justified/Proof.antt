@@ -1,7 +1,7 @@
 use Rattle.map.specs.Map.{kindByte}
 use mathlib.Core.Bool.{Bool·beq}
 use Rattle.circuit.specs.Tools.{same}
-use Rattle.map.proofs.Laws.{gate-kind}
+use Rattle.kinds.proofs.Bytes.{gate-kind}
 use mathlib.Core.Path.{_≡_, refl, sym, _∙_}
 use mathlib.Core.Bool.{Bool, true, false}
 use denote.Ref.{now}

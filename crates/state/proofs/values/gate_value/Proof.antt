@@ -1,5 +1,5 @@
 use Rattle.circuit.specs.Tools.{byte}
-use Rattle.map.proofs.Laws.{input-kind, gate-kind}
+use Rattle.kinds.proofs.Bytes.{input-kind, gate-kind}
 use denote.Ref.{now}
 use mathlib.Core.Path.{_≡_, ap, _∙_}
 use mathlib.Core.Bool.{true, false}

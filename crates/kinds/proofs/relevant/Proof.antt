@@ -1,12 +1,12 @@
 use mathlib.Core.Logic.{inl, inr}
 use mathlib.Core.Bool.{true, false}
 use Rattle.circuit.proofs.Values.{same-swap}
-use Rattle.map.proofs.Laws.{not-or-xor}
+use Rattle.kinds.proofs.Bytes.{not-or-xor}
 use borrow.Author.Needs.{needs}
-use Rattle.map.proofs.kinds.relevant.Statement.{statement}
-use Rattle.map.proofs.kinds.relevant.Tie as tie
-use Rattle.map.proofs.kinds.relevant.Reads as reads
-use Rattle.map.proofs.kinds.relevant.Lts as lts
+use Rattle.kinds.proofs.relevant.Statement.{statement}
+use Rattle.kinds.proofs.relevant.Tie as tie
+use Rattle.kinds.proofs.relevant.Reads as reads
+use Rattle.kinds.proofs.relevant.Lts as lts
 
 returns-3 : tie.Need-returns-3
 returns-3 c = rw (c .before .match .keys2, c .if1 .left) (same-swap false (c .before .before .args .x))

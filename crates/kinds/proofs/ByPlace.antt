@@ -12,7 +12,7 @@ use Rattle.circuit.specs.Tools.{upTo, singles, select}
 use Rattle.circuit.specs.Gate.{Kind, Input, Not, And, Or, Xor, options}
 use Rattle.circuit.proofs.Values.{same-swap, not-not}
 use Rattle.circuit.proofs.Lists.{map-same, in-upTo, select-same, select-append, select-none, select-images}
-use Rattle.map.specs.Kinds.{optionCount, optionTurns}
+use Rattle.kinds.specs.Kinds.{optionCount, optionTurns}
 
 -- the gates of option i, where child j is `child j` with value `at (child j)`
 abbrev pub optionBy : Kind → Bool → (ℕ → Bool) → (ℕ → ℕ) → ℕ → ℕ → List ℕ

@@ -1,9 +1,9 @@
 use native.Mathlib.Omega.{arith}
-use Rattle.map.proofs.Laws.{gate-kind}
-use Rattle.map.proofs.kinds.input_bit.Statement.{statement}
-use Rattle.map.proofs.kinds.input_bit.Tie as tie
-use Rattle.map.proofs.kinds.input_bit.Reads as reads
-use Rattle.map.proofs.kinds.input_bit.Lts as lts
+use Rattle.kinds.proofs.Bytes.{gate-kind}
+use Rattle.kinds.proofs.input_bit.Statement.{statement}
+use Rattle.kinds.proofs.input_bit.Tie as tie
+use Rattle.kinds.proofs.input_bit.Reads as reads
+use Rattle.kinds.proofs.input_bit.Lts as lts
 
 returns : tie.Need-returns
 returns c = (rw (c .if1 .taken), omega arith)

@@ -1,10 +1,10 @@
 use mathlib.Core.Logic.{inl, inr}
 use borrow.Author.Needs.{needs}
-use Rattle.map.proofs.Laws.{not-or-xor}
-use Rattle.map.proofs.kinds.options.Statement.{statement}
-use Rattle.map.proofs.kinds.options.Tie as tie
-use Rattle.map.proofs.kinds.options.Reads as reads
-use Rattle.map.proofs.kinds.options.Lts as lts
+use Rattle.kinds.proofs.Bytes.{not-or-xor}
+use Rattle.kinds.proofs.options.Statement.{statement}
+use Rattle.kinds.proofs.options.Tie as tie
+use Rattle.kinds.proofs.options.Reads as reads
+use Rattle.kinds.proofs.options.Lts as lts
 
 returns-2 : tie.Need-returns-2
 returns-2 c = rw (c .before .match .keys2, c .if1 .taken)

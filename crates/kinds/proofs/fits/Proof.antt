@@ -8,11 +8,11 @@ use lib.Dec.{eqb, leb}
 use borrow.Author.Tests.{eqb-true, eq-eqb, leb-true, le-leb, lt-leb}
 use Rattle.folds.specs.Folds.{_and_}
 use Rattle.folds.proofs.Tests.{same-test, and-left, and-right, and-both, and-first-false, and-past}
-use Rattle.map.specs.Check.{kindFits}
-use Rattle.map.proofs.kinds.fits.Statement.{statement}
-use Rattle.map.proofs.kinds.fits.Tie as tie
-use Rattle.map.proofs.kinds.fits.Reads as reads
-use Rattle.map.proofs.kinds.fits.Lts as lts
+use Rattle.kinds.specs.Kinds.{kindFits}
+use Rattle.kinds.proofs.fits.Statement.{statement}
+use Rattle.kinds.proofs.fits.Tie as tie
+use Rattle.kinds.proofs.fits.Reads as reads
+use Rattle.kinds.proofs.fits.Lts as lts
 
 -- equal is from a to a
 from-to : (a f : ℕ) → eqb f a ≡ (leb a f and leb f a)

@@ -6,18 +6,16 @@ use mathlib.Core.Bool.{Bool, true, false, not}
 use mathlib.Core.List.{List, [], _∷_, _++_, map}
 use native.Mathlib.Omega.{arith}
 use native.Mathlib.Nat.{zero-add}
-use lib.ListN.{length, length-map}
+use lib.ListN.{length}
 use lib.Dec.{eqb, ltb, eqb·suc-suc}
 use borrow.Author.Tests.{eqb-true, eqb-false, eq-eqb, ne-eqb, lt-ltb}
 use Rattle.folds.specs.Folds.{_and_, _or_}
 use Rattle.folds.proofs.Tests.{which}
 use Rattle.circuit.specs.Tools.{upTo, select}
 use Rattle.circuit.specs.Gate.{allOn, someOn, oddOn}
-use Rattle.circuit.specs.Circuit.{on, given}
 use Rattle.circuit.proofs.Values.{not-not}
-use Rattle.circuit.proofs.Lists.{length-upTo, map-append, place-more}
-use Rattle.map.specs.Map.{kindByte, fanIn, childAt, kidsOf, circuit}
-use Rattle.map.specs.Kinds.{countOn, GivesBy}
+use Rattle.circuit.proofs.Lists.{map-append, place-more}
+use Rattle.kinds.specs.Kinds.{countOn, GivesBy}
 
 -- ---- counting
 
@@ -31,7 +29,7 @@ count-append [] ws = sym (zero-add (countOn ws))
 count-append (v ∷ vs) ws = let ih = count-append vs ws in omega arith
 
 -- the loop's count is that of the values
-count-is : (p : ℕ → Bool) (n : ℕ) → countOn (map p (upTo n)) ≡ length (select p (upTo n))
+pub count-is : (p : ℕ → Bool) (n : ℕ) → countOn (map p (upTo n)) ≡ length (select p (upTo n))
 count-is p zero = refl
 count-is p (suc n) = rw (map-append p (upTo n) (n ∷ []), count-append (map p (upTo n)) (p n ∷ []), place-more p n, count-is p n) (omega arith)
 
@@ -80,14 +78,3 @@ module _ (n ones : ℕ) where
   xor-gives (suc (suc zero)) a b d f = absurd (d refl)
   xor-gives (suc (suc (suc zero))) a b d f = absurd (f refl)
   xor-gives (suc (suc (suc (suc k)))) a b d f = λ vs l e. rw (← e) (count-odd vs)
-
--- what a gate's children give, from their number and how many are at 1
-pub given-count : (m s : List ℕ) (g : ℕ) (v : Bool) → GivesBy (kindByte m g) (fanIn m g) (length (select (λ j. on s (childAt m g j)) (upTo (fanIn m g)))) v
-    → v ≡ given (circuit m) s g
-unfolding kidsOf
-given-count m s g v h = h (map (on s) (kidsOf m g)) (length-map (kidsOf m g) (on s) ∙ length-map (upTo (fanIn m g)) (λ j. childAt m g j) ∙ length-upTo (fanIn m g))
-    (ap countOn (map-map (upTo (fanIn m g))) ∙ count-is (λ j. on s (childAt m g j)) (fanIn m g))
-  where
-    map-map : (xs : List ℕ) → map (on s) (map (λ j. childAt m g j) xs) ≡ map (λ j. on s (childAt m g j)) xs
-    map-map [] = refl
-    map-map (x ∷ xs) = ap (λ (l : List Bool). on s (childAt m g x) ∷ l) (map-map xs)

@@ -1,9 +1,9 @@
 use borrow.Author.Needs.{needs}
-use Rattle.map.proofs.Count.{not-gives, and-gives, or-gives, xor-gives}
-use Rattle.map.proofs.kinds.gives.Statement.{statement}
-use Rattle.map.proofs.kinds.gives.Tie as tie
-use Rattle.map.proofs.kinds.gives.Reads as reads
-use Rattle.map.proofs.kinds.gives.Lts as lts
+use Rattle.kinds.proofs.Count.{not-gives, and-gives, or-gives, xor-gives}
+use Rattle.kinds.proofs.gives.Statement.{statement}
+use Rattle.kinds.proofs.gives.Tie as tie
+use Rattle.kinds.proofs.gives.Reads as reads
+use Rattle.kinds.proofs.gives.Lts as lts
 
 returns : tie.Need-returns
 returns c = λ vs l e. rw (c .match .keys1)

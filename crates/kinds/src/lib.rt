@@ -3,8 +3,7 @@ ghost use mathlib.Core.Path.{_≡_};
 ghost use Prim.Native.Nat.{_≤_};
 ghost use Rattle.circuit.specs.Tools.{byte};
 ghost use Rattle.circuit.specs.Gate.{kindOf, isInput, relevant};
-ghost use Rattle.map.specs.Check.{kindFits};
-ghost use Rattle.map.specs.Kinds.{GivesBy, optionCount, optionTurns};
+ghost use Rattle.kinds.specs.Kinds.{kindFits, GivesBy, optionCount, optionTurns};
 
 // 1 for an input's kind byte, else 0.
 pub fn input_bit(kind: u8) -> usize

@@ -1,12 +1,17 @@
--- For inner functions: what a gate gives, by the number of its children at 1, and what its options turn, by place. Assumes nothing.
+-- For inner functions: kind bytes, what a gate gives, by the number of its children at 1, and what its options turn, by place. Assumes nothing.
 use Prim.Native.Nat.{ℕ, _+_}
 use mathlib.Core.Path.{_≡_}
 use mathlib.Core.Bool.{Bool, true, false, not}
 use mathlib.Core.List.{List, [], _∷_}
 use lib.ListN.{length}
-use lib.Dec.{eqb}
+use lib.Dec.{eqb, leb}
+use Rattle.folds.specs.Folds.{_and_}
 use Rattle.circuit.specs.Tools.{byte}
-use Rattle.circuit.specs.Gate.{Kind, Input, Not, And, Or, Xor, kindOf, gives}
+use Rattle.circuit.specs.Gate.{Kind, Input, Not, And, Or, Xor, lastKind, kindOf, fanInFits, gives}
+
+-- is this the byte of a kind, and the fan-in allowed for it
+unfoldable pub kindFits : ℕ → ℕ → Bool
+kindFits k n = leb k lastKind and fanInFits (kindOf k) n
 
 -- how many of the values are 1
 abbrev pub countOn : List Bool → ℕ
@@ -18,7 +23,7 @@ abbrev pub GivesBy : ℕ → ℕ → ℕ → Bool → Type 0
 GivesBy k n ones v = (vs : List Bool) → length vs ≡ n → countOn vs ≡ ones → v ≡ gives (kindOf k) vs
 
 -- A gate's down options by the places of its children: how many a gate of this kind with value v and n children has, and whether option i turns child
--- j, whose value is x. That these are `options` of Gate.antt is `options-by` of proofs/Options.antt.
+-- j, whose value is x. That these are `options` of Gate.antt is `options-by` of proofs/ByPlace.antt.
 abbrev pub optionCount : Kind → Bool → ℕ → ℕ
 optionCount Input v n = 0
 optionCount Not v n = n
