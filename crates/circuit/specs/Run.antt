@@ -38,9 +38,13 @@ abbrev pub turn : List ℕ → List ℕ → List ℕ
 turn [] s = s
 turn (x ∷ xs) s = turn xs (set s x (byte (not (on s x))))
 
+-- the options of the smallest weight, in their order
+abbrev pub lightest : (List ℕ → ℕ) → List (List ℕ) → List (List ℕ)
+lightest weight os = select (λ o. holdsOfAll (λ p. leb (weight o) (weight p)) os) os
+
 -- "the options with the smallest interest set after the move, in rising order"
 unfoldable pub greedyOptions : Circuit → List ℕ → List (List ℕ) → List (List ℕ)
-greedyOptions c s os = select (λ o. holdsOfAll (λ p. leb (interestSize c (turn o s)) (interestSize c (turn p s))) os) os
+greedyOptions c s os = lightest (λ o. interestSize c (turn o s)) os
 
 -- The gates that a choice turns where gate g is drawn.
 --     Greedy    "of the options with the smallest interest set after the move, in rising order, the one at option modulo their number"

@@ -19,7 +19,7 @@ use Rattle.circuit.specs.Gate.{isInput, kindOf}
 use Rattle.circuit.specs.Circuit.{coded}
 use Rattle.circuit.specs.Evaluate.{inputsBefore}
 use Rattle.circuit.proofs.Lists.{place-more}
-use Rattle.map.specs.Map.{u16At, childrenAt, gateCount, childCount, codeCount, kindByte, fanIn, firstChild, fanInsBefore, codesAt, codeGate, codeAmong, circuit}
+use Rattle.map.specs.Map.{mostGates, u16At, childrenAt, gateCount, childCount, codeCount, kindByte, fanIn, firstChild, fanInsBefore, codesAt, codeGate, codeAmong, circuit}
 use Rattle.map.specs.Check.{offsetsTest, positionTest, positionsTest, childTest, childrenTest, codeTest, freeTest, firstFailed, contentsTests, Shaped, Placed, Sound, CodeMarks}
 
 -- ---- the sum of the fan-ins
@@ -52,7 +52,7 @@ fans-parent m (suc n) p l = elim (which (ltb p (fanInsBefore m n))) [
 
 -- ---- the records that the tests give
 
-pub shaped-of : (m : List ℕ) → gateCount m ≤ 1024 → offsetsTest m ≡ true → Shaped m
+pub shaped-of : (m : List ℕ) → gateCount m ≤ mostGates → offsetsTest m ≡ true → Shaped m
 unfolding offsetsTest
 shaped-of m l t = record { few = l; long = eqb-true _ _ (and-right _ _ t) }
 
@@ -173,7 +173,7 @@ free-all m s a = sym (all-of _ _ (λ g l. all-of _ _ (λ j h. all-at (freeChild 
 
 -- the tests on the contents, one by one, where none fails
 pub contents-tests : (m : List ℕ) → firstFailed (contentsTests m) ≡ 0
-    → (leb 12 (length m) ≡ true) × (leb 1 (gateCount m) and leb (gateCount m) 1024 ≡ true) × (offsetsTest m ≡ true)
+    → (leb 12 (length m) ≡ true) × (leb 1 (gateCount m) and leb (gateCount m) mostGates ≡ true) × (offsetsTest m ≡ true)
 unfolding contentsTests
 contents-tests m e =
     let t1 = none-failed 0 _ _ e in

@@ -10,6 +10,10 @@ use Rattle.circuit.specs.Gate.{kindOf}
 use Rattle.circuit.specs.Circuit.{Circuit}
 use Rattle.circuit.specs.Evaluate.{inputsBefore}
 
+-- "A map has 1 to 1,024 gates"
+abbrev pub mostGates : ℕ
+mostGates = 1024
+
 -- "All numbers are unsigned, little-endian ..; u16 is two bytes.": the u16 at a place
 unfoldable pub u16At : List ℕ → ℕ → ℕ
 u16At m at = getD m at 0 + 256 * getD m (at + 1) 0

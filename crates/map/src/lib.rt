@@ -6,6 +6,9 @@ ghost use mathlib.Core.Path.{_≡_};
 ghost use Rattle.map.specs.Check.{says, checked};
 ghost use Rattle.map.specs.Children.{PartOf, stretchAt, stretchLength};
 
+// A map has 1 to this many gates.
+pub const MOST_GATES: usize = 1024;
+
 pub struct Counts {
     pub gates: usize,
     pub inputs: usize,

@@ -1,4 +1,5 @@
 // The tests 1 to 8 of a map, each over all it concerns before the next.
+use super::MOST_GATES;
 use super::decode;
 use super::decode::Contents;
 ghost use mathlib.Core.Path.{_≡_};
@@ -7,7 +8,7 @@ ghost use Prim.Native.Nat.{_-_, _<_, _≤_};
 ghost use lib.ListN.{length};
 ghost use lib.Dec.{eqb, ltb};
 ghost use Rattle.folds.specs.Folds.{_or_, allBelow};
-ghost use Rattle.map.specs.Map.{gateCount, codeCount, codesAt, fanIn, codeGate};
+ghost use Rattle.map.specs.Map.{mostGates, gateCount, codeCount, codesAt, fanIn, codeGate};
 ghost use Rattle.map.specs.Check.{offsetsTest, kindTest, positionsTest, childTest, childrenTest, codeTest, freeTest};
 ghost use Rattle.map.specs.Check.{firstFailed, contentsTests, bodiesTests, verdict, ContentsOf, Shaped, Placed, Sound, CodeMarks};
 
@@ -168,7 +169,7 @@ fn codes_ok(map: &[u8], n: Contents) -> bool
 // Test 8, with the coded gates marked: over all children, whosever they are.
 fn all_free(map: &[u8], n: Contents, marks: &[u8]) -> bool
     requires { ⌜ ContentsOf (now map) n ⌝ }
-    requires { ⌜ Sound (now map) × ((1024 ≤ length (now marks)) × CodeMarks (now map) (codeCount (now map)) (now marks)) ⌝ }
+    requires { ⌜ Sound (now map) × ((mostGates ≤ length (now marks)) × CodeMarks (now map) (codeCount (now map)) (now marks)) ⌝ }
     ensures { λ r. ⌜ r ≡ allBelow (gateCount (now (map .entry))) (freeTest (now (map .entry))) ⌝ }
 {
     let gates = n.gates;
@@ -190,7 +191,7 @@ fn free_ok(map: &[u8], n: Contents) -> bool
     requires { ⌜ Sound (now map) ⌝ }
     ensures { λ r. ⌜ r ≡ allBelow (gateCount (now (map .entry))) (freeTest (now (map .entry))) ⌝ }
 {
-    let mut marks = [0u8; 1024];
+    let mut marks = [0u8; MOST_GATES];
     decode::mark_codes(map, decode::child_place(n.gates, n.children), n.codes, &mut marks);
     all_free(map, n, &marks)
 }
@@ -206,7 +207,7 @@ fn contents_failed(map: &[u8]) -> u8
     if n.gates == 0 {
         return 2;
     }
-    if 1024 < n.gates {
+    if MOST_GATES < n.gates {
         return 2;
     }
     if !offsets_ok(map, n) {

@@ -10,6 +10,7 @@ use Rattle.folds.specs.Folds.{allBelow}
 use Rattle.circuit.specs.Circuit.{Configuration}
 use Rattle.circuit.specs.Evaluate.{Row, evaluate, mark, Evaluated, Satisfying}
 use Rattle.map.specs.Map.{gateCount, codeCount, codeGate, codeValue, circuit, inputCount}
+use Rattle.map.specs.declared.Counts.{Counts}
 use Rattle.map.specs.Check.{firstFailed, mapTests, verdict, Test, MapNumber}
 use Rattle.state.specs.declared.Written.{Written}
 use Rattle.state.specs.declared.Written.the-variants.{Done}
@@ -150,6 +151,11 @@ abbrev pub MarkDeclines : Type 0
 MarkDeclines = (m s : List ℕ) → marking m s .accepted ≡ false → MarkDeclined (marking m s)
 
 -- ---- for inner functions
+
+-- a row that tests 9 and 10 let through, for a map with these counts
+pub record RowOf (n : Counts) (row : List ℕ) : Type 0 where
+  pub long : length row ≡ n .inputs
+  pub bits : Bits row
 
 -- Evaluate and Mark behind the map's tests
 unfoldable pub rowEvaluation : List ℕ → List ℕ → List ℕ → Evaluation

@@ -26,13 +26,7 @@ pub fn evaluate(map: &[u8], row: &[u8], out: &mut [u8]) -> Written
 {
     match map::check(map) {
         Checked::Refused(k) => Written::Refused(k),
-        Checked::Accepted(counts) => values::evaluate_accepted(
-            map,
-            counts.gates,
-            counts.inputs,
-            row,
-            out,
-        ),
+        Checked::Accepted(counts) => values::evaluate_accepted(map, counts, row, out),
     }
 }
 
@@ -42,12 +36,6 @@ pub fn mark(map: &[u8], configuration: &[u8]) -> Marked
 {
     match map::check(map) {
         Checked::Refused(k) => Marked::Refused(k),
-        Checked::Accepted(counts) => marking::mark_accepted(
-            map,
-            counts.gates,
-            counts.children,
-            counts.codes,
-            configuration,
-        ),
+        Checked::Accepted(counts) => marking::mark_accepted(map, counts, configuration),
     }
 }

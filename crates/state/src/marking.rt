@@ -2,6 +2,7 @@
 use super::Marked;
 use super::gates;
 use super::values;
+use map::Counts;
 use map::decode;
 ghost use mathlib.Core.Path.{_≡_};
 ghost use Prim.Native.Nat.{_+_, _*_, _<_, _≤_};
@@ -9,18 +10,20 @@ ghost use lib.ListN.{length, getD};
 ghost use lib.Dec.{eqb};
 ghost use Rattle.folds.specs.Folds.{allBelow};
 ghost use Rattle.circuit.specs.Circuit.{justified};
-ghost use Rattle.map.specs.Map.{gateCount, childCount, codeCount, codesAt, codeGate, codeValue, circuit};
-ghost use Rattle.map.specs.Check.{IsMap};
+ghost use Rattle.map.specs.Map.{gateCount, codeCount, codesAt, codeGate, codeValue, circuit};
+ghost use Rattle.map.specs.Check.{IsMap, Counted};
 ghost use Rattle.state.specs.State.{tells, configurationMarking, shownByRecord};
 
 // Is every gate an input, or do its children give its value?
-fn gates_right(map: &[u8], gates: usize, s: &[u8]) -> bool
-    requires { ⌜ IsMap (now map) × ((gates ≡ gateCount (now map)) × (gates ≤ length (now s))) ⌝ }
+fn gates_right(map: &[u8], counts: Counts, s: &[u8]) -> bool
+    requires { ⌜ Counted (now map) counts ⌝ }
+    requires { ⌜ counts .gates ≤ length (now s) ⌝ }
     ensures { λ r. ⌜ r ≡ allBelow (gateCount (now (map .entry))) (justified (circuit (now (map .entry))) (now (s .entry))) ⌝ }
 {
+    let gates = counts.gates;
     let mut g = 0;
     while g < gates {
-        if !gates::justified(map, gates, g, s) {
+        if !gates::justified(map, counts, g, s) {
             return false;
         }
         g += 1;
@@ -38,10 +41,13 @@ fn code_shown(map: &[u8], start: usize, r: usize, s: &[u8]) -> bool
 }
 
 // Does every coded gate have its code?
-pub fn codes_shown(map: &[u8], start: usize, codes: usize, s: &[u8]) -> bool
-    requires { ⌜ IsMap (now map) × ((start ≡ codesAt (now map)) × ((codes ≡ codeCount (now map)) × (gateCount (now map) ≤ length (now s)))) ⌝ }
+pub fn codes_shown(map: &[u8], counts: Counts, s: &[u8]) -> bool
+    requires { ⌜ Counted (now map) counts ⌝ }
+    requires { ⌜ counts .gates ≤ length (now s) ⌝ }
     ensures { λ r. ⌜ r ≡ shownByRecord (now (map .entry)) (now (s .entry)) ⌝ }
 {
+    let start = decode::codes_start(map, counts);
+    let codes = counts.codes;
     let mut r = 0;
     while r < codes {
         if !code_shown(map, start, r, s) {
@@ -53,20 +59,20 @@ pub fn codes_shown(map: &[u8], start: usize, codes: usize, s: &[u8]) -> bool
 }
 
 // Tests 9 and 10, and the answer.
-pub fn mark_accepted(map: &[u8], gates: usize, children: usize, codes: usize, s: &[u8]) -> Marked
-    requires { ⌜ IsMap (now map) × ((gates ≡ gateCount (now map)) × ((children ≡ childCount (now map)) × (codes ≡ codeCount (now map)))) ⌝ }
+pub fn mark_accepted(map: &[u8], counts: Counts, s: &[u8]) -> Marked
+    requires { ⌜ Counted (now map) counts ⌝ }
     ensures { λ r. ⌜ tells r ≡ configurationMarking (now (map .entry)) (now (s .entry)) ⌝ }
 {
-    if s.len() != gates {
+    if s.len() != counts.gates {
         return Marked::Refused(9);
     }
     if !values::bits_ok(s) {
         return Marked::Refused(10);
     }
-    if !gates_right(map, gates, s) {
+    if !gates_right(map, counts, s) {
         return Marked::No;
     }
-    if !codes_shown(map, 12 + 4 * gates + 2 * children, codes, s) {
+    if !codes_shown(map, counts, s) {
         return Marked::No;
     }
     Marked::Yes

@@ -1,6 +1,7 @@
 // Evaluate on an accepted map.
 use super::Written;
 use super::gates;
+use map::Counts;
 use map::decode;
 ghost use mathlib.Core.Path.{_≡_};
 ghost use mathlib.Core.Logic.{_⊎_};
@@ -11,9 +12,9 @@ ghost use Rattle.circuit.specs.Tools.{byte};
 ghost use Rattle.circuit.specs.Gate.{kindOf, isInput};
 ghost use Rattle.circuit.specs.Circuit.{on, given};
 ghost use Rattle.circuit.specs.Evaluate.{inputsBefore, evaluate};
-ghost use Rattle.map.specs.Map.{gateCount, kindByte, circuit};
-ghost use Rattle.map.specs.Check.{IsMap};
-ghost use Rattle.state.specs.State.{over, bitsTest, writes, rowEvaluation, Bits};
+ghost use Rattle.map.specs.Map.{kindByte, circuit};
+ghost use Rattle.map.specs.Check.{Counted};
+ghost use Rattle.state.specs.State.{over, bitsTest, writes, rowEvaluation, RowOf};
 
 // A value as a byte.
 pub fn bit(v: bool) -> u8
@@ -43,53 +44,49 @@ pub fn bits_ok(s: &[u8]) -> bool
 }
 
 // The value of gate g: an input's from place `at` of the row, another's as its children give it.
-fn gate_value(map: &[u8], gates: usize, g: usize, row: &[u8], at: usize, out: &[u8]) -> u8
-    requires { ⌜ IsMap (now map) × ((gates ≡ gateCount (now map)) × ((g < gates) × (gates ≤ length (now out)))) ⌝ }
-    requires { ⌜ (at ≡ inputsBefore (circuit (now map)) g) × ((inputsBefore (circuit (now map)) gates ≡ length (now row)) × Bits (now row)) ⌝ }
+fn gate_value(map: &[u8], counts: Counts, g: usize, row: &[u8], at: usize, out: &[u8]) -> u8
+    requires { ⌜ Counted (now map) counts ⌝ }
+    requires { ⌜ (g < counts .gates) × (counts .gates ≤ length (now out)) ⌝ }
+    requires { ⌜ RowOf counts (now row) × (at ≡ inputsBefore (circuit (now map)) g) ⌝ }
     ensures { λ r. ⌜ r ≡ byte (cond (isInput (kindOf (kindByte (now (map .entry)) g))) (on (now (row .entry)) at) (given (circuit (now (map .entry))) (now (out .entry)) g)) ⌝ }
 {
-    if decode::kind(map, gates, g) == 0 {
+    if decode::kind(map, g) == 0 {
         return row[at];
     }
-    bit(gates::given(map, gates, g, out))
+    bit(gates::given(map, counts, g, out))
 }
 
 // Writes the values, in rising order.
-fn fill(map: &[u8], gates: usize, row: &[u8], out: &mut [u8])
-    requires { ⌜ IsMap (now map) × ((gates ≡ gateCount (now map)) × (gates ≤ length (now out))) ⌝ }
-    requires { ⌜ (inputsBefore (circuit (now map)) gates ≡ length (now row)) × Bits (now row) ⌝ }
+fn fill(map: &[u8], counts: Counts, row: &[u8], out: &mut [u8])
+    requires { ⌜ Counted (now map) counts ⌝ }
+    requires { ⌜ RowOf counts (now row) × (counts .gates ≤ length (now out)) ⌝ }
     ensures { λ _. ⌜ now (out .exit) ≡ over (evaluate (circuit (now (map .entry))) (now (row .entry))) (now (out .entry)) ⌝ }
 {
+    let gates = counts.gates;
     let mut at = 0;
     let mut g = 0;
     while g < gates {
-        let v = gate_value(map, gates, g, row, at, out);
+        let v = gate_value(map, counts, g, row, at, out);
         out[g] = v;
-        at += kinds::input_bit(decode::kind(map, gates, g));
+        at += kinds::input_bit(decode::kind(map, g));
         g += 1;
     }
 }
 
 // Tests 9, 10 and 14, and the values.
-pub fn evaluate_accepted(
-    map: &[u8],
-    gates: usize,
-    inputs: usize,
-    row: &[u8],
-    out: &mut [u8],
-) -> Written
-    requires { ⌜ IsMap (now map) × ((gates ≡ gateCount (now map)) × (inputs ≡ inputsBefore (circuit (now map)) gates)) ⌝ }
+pub fn evaluate_accepted(map: &[u8], counts: Counts, row: &[u8], out: &mut [u8]) -> Written
+    requires { ⌜ Counted (now map) counts ⌝ }
     ensures { λ r. ⌜ writes r (now (out .exit)) ≡ rowEvaluation (now (map .entry)) (now (row .entry)) (now (out .entry)) ⌝ }
 {
-    if row.len() != inputs {
+    if row.len() != counts.inputs {
         return Written::Refused(9);
     }
     if !bits_ok(row) {
         return Written::Refused(10);
     }
-    if out.len() < gates {
+    if out.len() < counts.gates {
         return Written::Refused(14);
     }
-    fill(map, gates, row, out);
+    fill(map, counts, row, out);
     Written::Done
 }

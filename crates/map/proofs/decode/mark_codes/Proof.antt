@@ -20,26 +20,34 @@ abbrev μ-loop : tie.MeasureT-loop
 μ-loop map start codes marks₀ r₀ marks r = codes - r
 
 -- the gate of a code is there to be marked
-room : (c : tie.After-code-gate Inv-loop μ-loop) → c .code-gate .result < length (c .before .before .loop .marks)
-room c =
-    let s = c .before .before .before .before .before in
-    omega (arith, s .pre .0 .0 .coded-gate (c .before .before .loop .r) (omega arith))
+module _ (c : tie.After-code-gate Inv-loop μ-loop) where
+  abbrev at-loop : tie.At-loop Inv-loop μ-loop
+  at-loop = search
+
+  room : c .code-gate .result < length (at-loop .loop .marks)
+  room =
+      let s : tie.Start Inv-loop μ-loop = search in
+      omega (arith, s .pre .0 .0 .coded-gate (at-loop .loop .r) (omega arith))
 
 loop-holds : tie.Need-loop-holds Inv-loop μ-loop
-loop-holds c = (search needs, (refl, c .before .before .pre .1 .1))
+loop-holds c =
+    let s : tie.Start Inv-loop μ-loop = search in
+    (search needs, (refl, s .pre .1 .1))
 
 slice-write-marks : tie.Need-slice-write-marks Inv-loop μ-loop
 slice-write-marks c = omega (arith, room c)
 
 loop-again : tie.Need-loop-again Inv-loop μ-loop
-loop-again c = let l = c .before .before .loop in
+loop-again c =
+    let l = at-loop c .loop in
     (omega arith, (simp length-set (l .inv .1 .0), marks-more _ (l .r) (l .marks) (c .code-gate .result) (c .code-gate .ensures .0) (room c) (l .inv .1 .1)))
 
 returns : tie.Need-returns Inv-loop μ-loop
-returns c = let l = c .before .loop in
-    let s = c .before .before .before .before in
-    let e : codeCount (now (s .args .map)) ≡ l .r = omega arith in
-    rw e (l .inv .1 .1)
+returns c =
+    let l : tie.At-loop Inv-loop μ-loop = search in
+    let s : tie.Start Inv-loop μ-loop = search in
+    let e : codeCount (now (s .args .map)) ≡ l .loop .r = omega arith in
+    rw e (l .loop .inv .1 .1)
 
 pub mark-codes-spec : {M : Type 1} → statement M
 mark-codes-spec =

@@ -7,7 +7,7 @@ use lib.Dec.{leb}
 use borrow.Author.Tests.{le-leb, lt-leb}
 use Rattle.folds.specs.Folds.{_and_}
 use Rattle.folds.proofs.Tests.{and-both, and-first-false, and-second-false, flag-false, flag-true}
-use Rattle.map.specs.Map.{gateCount}
+use Rattle.map.specs.Map.{mostGates, gateCount}
 use Rattle.map.specs.Check.{contentsTests}
 use Rattle.map.proofs.Laws.{past, stop, no-test}
 use borrow.Author.Needs.{needs}
@@ -38,7 +38,7 @@ returns-3 c =
     sym (past _ _ _ (le-leb _ _ (e .if1 .left)) ∙ stop _ _ _ (rw (← n .read-contents .ensures .gates .0) (and-second-false _ _ (lt-leb _ _ (c .if3 .taken)))))
 
 -- where the number of gates is right
-few : (c : tie.Else3) → let s : tie.Start = search in leb 1 (gateCount (now (s .args .map))) and leb (gateCount (now (s .args .map))) 1024 ≡ true
+few : (c : tie.Else3) → let s : tie.Start = search in leb 1 (gateCount (now (s .args .map))) and leb (gateCount (now (s .args .map))) mostGates ≡ true
 few c =
     let n : tie.After-read-contents = search in
     let h : 1 ≤ n .read-contents .result .gates = omega arith in

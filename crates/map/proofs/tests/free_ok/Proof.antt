@@ -1,4 +1,5 @@
 use native.Mathlib.Omega.{arith}
+use Rattle.map.specs.Map.{mostGates}
 use Rattle.map.proofs.Laws.{marks-none}
 use borrow.Author.Needs.{needs}
 use Rattle.map.proofs.tests.free_ok.Statement.{statement}
@@ -12,7 +13,7 @@ use Rattle.map.proofs.decode.mark_codes.Reads as mark-codes-reads
 mark-codes-requires : tie.Need-mark-codes-requires
 mark-codes-requires c κs =
     let s : tie.Start = search in
-    ((s .pre .1, (omega (arith, s .pre .0), s .pre .0 .codes .0)), (search needs, marks-none _ 1024))
+    ((s .pre .1, (omega (arith, s .pre .0), s .pre .0 .codes .0)), (search needs, marks-none _ mostGates))
 
 all-free-requires : tie.Need-all-free-requires
 all-free-requires c κs =

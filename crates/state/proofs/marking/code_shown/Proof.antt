@@ -7,10 +7,13 @@ use Rattle.state.proofs.marking.code_shown.Lts as lts
 use Rattle.map.proofs.decode.code_gate.Reads as code-gate-reads
 
 shared-slice-read-result : tie.Need-shared-slice-read-result
-shared-slice-read-result c = let s = c .before .before .before .before in omega (arith, s .pre .0 .sound .coded-gate (s .args .r) (s .pre .1 .1 .0))
+shared-slice-read-result c = let s : tie.Start = search in omega (arith, s .pre .0 .sound .coded-gate (s .args .r) (s .pre .1 .1 .0))
 
 returns : tie.Need-returns
-returns c = let s = c .before .before .before .before .before in rw (c .before .before .code-gate .ensures .0, s .pre .1 .0)
+returns c =
+    let x : tie.After-code-gate = search in
+    let s : tie.Start = search in
+    rw (x .code-gate .ensures .0, s .pre .1 .0)
 
 pub code-shown-spec : {M : Type 1} → statement M
 code-shown-spec =

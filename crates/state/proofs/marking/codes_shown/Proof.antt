@@ -1,14 +1,12 @@
 use Prim.Native.Nat.{_-_, _≤_}
-use mathlib.Core.Path.{_≡_}
+use mathlib.Core.Path.{_≡_, sym}
 use mathlib.Core.Bool.{true}
 use native.Mathlib.Omega.{arith}
-use Rattle.folds.specs.Folds.{allBelow}
-use Rattle.folds.proofs.Loops.{loops-of}
 use lib.Dec.{eqb}
 use lib.ListN.{getD}
-use mathlib.Core.Path.{sym}
+use Rattle.folds.specs.Folds.{allBelow}
 use Rattle.folds.proofs.Tests.{flag-false, flag-true}
-use Rattle.folds.proofs.Loops.{all-more, all-fails}
+use Rattle.folds.proofs.Loops.{loops-of, all-more, all-fails}
 use Rattle.map.specs.Map.{codeGate, codeValue}
 use Rattle.state.specs.State.{shownByRecord}
 use borrow.Author.Needs.{needs}
@@ -17,19 +15,30 @@ use Rattle.state.proofs.marking.codes_shown.Tie as tie
 use Rattle.state.proofs.marking.codes_shown.Reads as reads
 use Rattle.state.proofs.marking.codes_shown.Lts as lts
 use Rattle.state.proofs.marking.code_shown.Reads as code-shown-reads
+use Rattle.map.proofs.decode.codes_start.Reads as codes-start-reads
 
 abbrev Inv-loop : tie.InvT-loop
-Inv-loop map start codes s r₀ r = (r ≤ codes) × (allBelow r (λ i. eqb (getD s (codeGate map i) 0) (codeValue map i)) ≡ true)
+Inv-loop map s start codes r₀ r = (r ≤ codes) × (allBelow r (λ i. eqb (getD s (codeGate map i) 0) (codeValue map i)) ≡ true)
 
 abbrev μ-loop : tie.MeasureT-loop
-μ-loop map start codes s r₀ r = codes - r
+μ-loop map s start codes r₀ r = codes - r
+
+code-shown-requires : tie.Need-code-shown-requires Inv-loop μ-loop
+code-shown-requires c κs =
+    let k : tie.After-codes-start Inv-loop μ-loop = search in
+    let s : tie.Start Inv-loop μ-loop = search in
+    (s .pre .0 .is, (k .codes-start .ensures, (omega (arith, s .pre .0 .codes), omega (arith, s .pre .0 .gates))))
 
 returns : tie.Need-returns Inv-loop μ-loop
 unfolding shownByRecord
-returns c = let l = c .before .before .before .loop in sym (all-fails _ _ (l .r) (omega arith) (flag-false _ _ (c .if1 .taken) (c .before .code-shown .ensures)))
+returns c =
+    let l : tie.At-loop Inv-loop μ-loop = search in
+    sym (all-fails _ _ (l .loop .r) (omega arith) (flag-false _ _ (c .if1 .taken) (c .before .code-shown .ensures)))
 
 loop-again : tie.Need-loop-again Inv-loop μ-loop
-loop-again c = let l = c .before .before .before .loop in (search needs, all-more _ (l .r) (l .inv .1) (flag-true _ _ (c .if1 .left) (c .before .code-shown .ensures)))
+loop-again c =
+    let l : tie.At-loop Inv-loop μ-loop = search in
+    (search needs, all-more _ (l .loop .r) (l .loop .inv .1) (flag-true _ _ (c .if1 .left) (c .before .code-shown .ensures)))
 
 returns-2 : tie.Need-returns-2 Inv-loop μ-loop
 unfolding shownByRecord
@@ -41,8 +50,9 @@ codes-shown-spec =
     (tie.spec
     Inv-loop
     μ-loop
-    (λ c. search (needs, loops-of))
     (λ c κs. search needs)
+    (λ c. search (needs, loops-of))
+    code-shown-requires
     returns
     (λ c. search needs)
     (λ c. search needs)

@@ -13,10 +13,10 @@ use Rattle.state.proofs.marking.gates_right.Lts as lts
 use Rattle.state.proofs.gates.justified.Reads as justified-reads
 
 abbrev Inv-loop : tie.InvT-loop
-Inv-loop map gates s g₀ g = (g ≤ gates) × (allBelow g (justified (circuit map) s) ≡ true)
+Inv-loop map counts s gates g₀ g = (g ≤ gates) × (allBelow g (justified (circuit map) s) ≡ true)
 
 abbrev μ-loop : tie.MeasureT-loop
-μ-loop map gates s g₀ g = gates - g
+μ-loop map counts s gates g₀ g = gates - g
 
 pub gates-right-spec : {M : Type 1} → statement M
 gates-right-spec =

@@ -22,46 +22,58 @@ use Rattle.state.proofs.marking.gates_right.Reads as gates-right-reads
 use Rattle.state.proofs.values.bits_ok.Reads as bits-ok-reads
 
 -- the number, from the test at place k of the list on
-abbrev from : ℕ → (c : tie.Start) → ℕ
+abbrev from : ℕ → tie.Start → ℕ
 from k s = firstFailed (drop k (configurationTests (now (s .args .map)) (now (s .args .s))))
 
-q1 : (c : tie.Else1) → from 0 (c .before .before .before) ≡ from 1 (c .before .before .before)
+q1 : (c : tie.Else1) → let s : tie.Start = search in from 0 s ≡ from 1 s
 unfolding configurationTests
-q1 c = past _ _ _ (eq-eqb _ _ (c .if1 .left ∙ c .before .before .before .pre .1 .0))
+q1 c = let s : tie.Start = search in past _ _ _ (eq-eqb _ _ (c .if1 .left ∙ s .pre .gates))
 
-bits : (c : tie.Else2) → bitsTest (now (c .before .before .before .before .before .args .s)) ≡ true
-bits c = flag-true _ _ (c .if2 .left) (c .before .bits-ok .ensures)
+-- both tests pass
+module _ (c : tie.Else2) where
+  abbrev begun : tie.Start
+  begun = search
 
-none : (c : tie.Else2) → from 0 (c .before .before .before .before .before) ≡ 0
-unfolding configurationTests
-none c = q1 (c .before .before) ∙ past _ _ _ (bits c) ∙ no-test
+  bits : bitsTest (now (begun .args .s)) ≡ true
+  bits = flag-true _ _ (c .if2 .left) (c .before .bits-ok .ensures)
+
+  none : from 0 begun ≡ 0
+  unfolding configurationTests
+  none = q1 (search) ∙ past _ _ _ bits ∙ no-test
 
 returns : tie.Need-returns
 unfolding configurationTests configurationMarking
-returns c = let s = c .before .before .before in
-    let e = stop _ _ _ (ne-eqb _ _ (λ z. c .if1 .taken (z ∙ sym (s .pre .1 .0)))) in
+returns c =
+    let s : tie.Start = search in
+    let e = stop _ _ _ (ne-eqb _ _ (λ z. c .if1 .taken (z ∙ sym (s .pre .gates)))) in
     mark-refused _ _ _ 9 (sym e) (λ z. omega arith)
 
 returns-2 : tie.Need-returns-2
 unfolding configurationTests configurationMarking
-returns-2 c = let e = q1 (c .before .before) ∙ stop _ _ _ (flag-false _ _ (c .if2 .taken) (c .before .bits-ok .ensures)) in
+returns-2 c =
+    let e = q1 (search) ∙ stop _ _ _ (flag-false _ _ (c .if2 .taken) (c .before .bits-ok .ensures)) in
     mark-refused _ _ _ 10 (sym e) (λ z. omega arith)
 
 returns-3 : tie.Need-returns-3
 unfolding configurationMarking
-returns-3 c = let q = c .before .before in
-    mark-no _ _ _ (none q) (mark-tests _ _ (q .before .before .before .before .before .pre .0) (bits-of _ (bits q)) ∙ and-first-false _ _ (flag-false _ _ (c .if3 .taken) (c .before .gates-right .ensures)))
+returns-3 c =
+    let q : tie.Else2 = search in
+    mark-no _ _ _ (none q) (mark-tests _ _ (begun q .pre .is) (bits-of _ (bits q)) ∙ and-first-false _ _ (flag-false _ _ (c .if3 .taken) (c .before .gates-right .ensures)))
 
 returns-4 : tie.Need-returns-4
 unfolding configurationMarking
-returns-4 c = let q = c .before .before .before .before in
-    mark-no _ _ _ (none q) (mark-tests _ _ (q .before .before .before .before .before .pre .0) (bits-of _ (bits q)) ∙ and-second-false _ _ (flag-false _ _ (c .if4 .taken) (c .before .codes-shown .ensures)))
+returns-4 c =
+    let q : tie.Else2 = search in
+    mark-no _ _ _ (none q) (mark-tests _ _ (begun q .pre .is) (bits-of _ (bits q)) ∙ and-second-false _ _ (flag-false _ _ (c .if4 .taken) (c .before .codes-shown .ensures)))
 
 returns-5 : tie.Need-returns-5
 unfolding configurationMarking
-returns-5 c = let q = c .before .before .before .before in
-    mark-yes _ _ _ (none q) (mark-tests _ _ (q .before .before .before .before .before .pre .0) (bits-of _ (bits q))
-    ∙ and-both _ _ (flag-true _ _ (c .before .before .if3 .left) (c .before .before .before .gates-right .ensures)) (flag-true _ _ (c .if4 .left) (c .before .codes-shown .ensures)))
+returns-5 c =
+    let e : tie.Else3 = search in
+    let r : tie.After-gates-right = search in
+    let q : tie.Else2 = search in
+    mark-yes _ _ _ (none q) (mark-tests _ _ (begun q .pre .is) (bits-of _ (bits q))
+    ∙ and-both _ _ (flag-true _ _ (e .if3 .left) (r .gates-right .ensures)) (flag-true _ _ (c .if4 .left) (c .before .codes-shown .ensures)))
 
 pub mark-accepted-spec : {M : Type 1} → statement M
 mark-accepted-spec =
@@ -72,10 +84,6 @@ mark-accepted-spec =
     returns-2
     (λ c κs. search needs)
     returns-3
-    (λ c. search needs)
-    (λ c. search needs)
-    (λ c. search needs)
-    (λ c. search needs)
     (λ c κs. search needs)
     returns-4
     returns-5)
