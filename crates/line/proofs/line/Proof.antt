@@ -11,8 +11,9 @@ returns : tie.Need-returns
 returns c = (prints-nothing _ _ (c .if1 .taken), omega arith)
 
 returns-2 : tie.Need-returns-2
-returns-2 c = let p = c .before .before .put-line .ensures in
-    (prints _ _ _ _ (omega arith) (omega (arith, p .0 .behind, p .1)) (p .0), omega (arith, p .1))
+returns-2 c =
+    let p : tie.After-put-line = search in
+    (prints _ _ _ _ (omega arith) (omega arith) (p .put-line .ensures .0), omega arith)
 
 pub line-spec : {M : Type 1} → statement M
 line-spec = tie.close (tie.spec returns (λ c κs. search needs) (λ c. search needs) returns-2)

@@ -21,14 +21,18 @@ returns c = rw (lt-leb _ _ (c .if1 .taken))
 
 returns-2 : tie.Need-returns-2
 unfolding inputTest _and_
-returns-2 c = let x = now (c .before .before .before .args .input) in
+returns-2 c =
+    let s : tie.Start = search in
+    let x = now (s .args .input) in
     let h : length x ≤ 65536 = omega arith in rw (le-leb _ _ h, ne-eqb (length x) (tapeAt x + u16At x 4) (λ e. omega arith))
 
 returns-3 : tie.Need-returns-3
 unfolding inputTest _and_
-returns-3 c = let s = c .before .before .before .before .before .before in
-    let h : length (now (s .args .input)) ≤ 65536 = omega arith in
-    rw (le-leb _ _ h) (ap (λ (n : ℕ). eqb (length (now (s .args .input))) n) (omega (arith, c .before .before .word .ensures .0, c .before .word2 .ensures .0, c .word3 .ensures .0)))
+returns-3 c =
+    let s : tie.Start = search in
+    let x = now (s .args .input) in
+    let h : length x ≤ 65536 = omega arith in
+    rw (le-leb _ _ h) (ap (λ (n : ℕ). eqb (length x) n) (omega arith))
 
 pub is-whole-spec : {M : Type 1} → statement M
 is-whole-spec =

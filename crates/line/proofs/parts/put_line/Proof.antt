@@ -16,36 +16,48 @@ use Rattle.line.proofs.report.put_refused.Reads as put-refused-reads
 use Rattle.map.proofs.decode.word.Reads as word-reads
 
 -- what the test tells
-tested : (c : tie.Else1) → inputTest (now (c .before .before .before .before .args .input)) ≡ true
-tested c = flag-true _ _ (c .if1 .left) (c .before .is-whole .ensures)
+module _ (c : tie.Else1) where
+  abbrev start : tie.Start
+  start = search
 
-is : (c : tie.Else1) → Whole (now (c .before .before .before .before .args .input))
-is c = whole _ (tested c)
+  tested : inputTest (now (start .args .input)) ≡ true
+  tested = flag-true _ _ (c .if1 .left) (c .before .is-whole .ensures)
+
+  is : Whole (now (start .args .input))
+  is = whole _ tested
 
 returns : tie.Need-returns
-returns c = rw (← line-refused (now (c .before .before .before .before .before .before .before .before .args .input)) (flag-false _ _ (c .before .before .before .before .if1 .taken) (c .before .before .before .before .before .is-whole .ensures))) (c .before .before .put-refused .ensures)
+returns c =
+    let p : tie.After-put-refused = search in
+    let t : tie.Then1 = search in
+    let s : tie.Start = search in
+    rw (← line-refused (now (s .args .input)) (flag-false _ _ (t .if1 .taken) (t .before .is-whole .ensures))) (p .put-refused .ensures)
 
 word-requires : tie.Need-word-requires
 word-requires c κs = omega (arith, is c .head)
 
 word-requires-2 : tie.Need-word-requires-2
-word-requires-2 c κs = omega (arith, is (c .before) .head)
+word-requires-2 c κs = let t : tie.Else1 = search in omega (arith, is t .head)
 
 part-put-parts-end : tie.Need-part-put-parts-end
-part-put-parts-end c = let i = is (c .before .before) in omega (arith, i .exact, c .before .word .ensures .0)
+part-put-parts-end c = let t : tie.Else1 = search in omega (arith, is t .exact)
 
 part-put-parts-end-2 : tie.Need-part-put-parts-end-2
-part-put-parts-end-2 c = let i = is (c .before .before .before) in omega (arith, i .exact, c .before .before .word .ensures .0, c .before .word2 .ensures .0)
+part-put-parts-end-2 c = let t : tie.Else1 = search in omega (arith, is t .exact)
 
 sub-put-parts-3 : tie.Need-sub-put-parts-3
-sub-put-parts-3 c = let i = is (c .before .before .before .before) in omega (arith, i .exact, c .before .before .before .word .ensures .0, c .before .before .word2 .ensures .0)
+sub-put-parts-3 c = let t : tie.Else1 = search in omega (arith, is t .exact)
 
 part-put-parts-start-3 : tie.Need-part-put-parts-start-3
-part-put-parts-start-3 c = let i = is (c .before .before .before .before) in omega (arith, i .exact, c .before .before .before .word .ensures .0, c .before .before .word2 .ensures .0)
+part-put-parts-start-3 c = let t : tie.Else1 = search in omega (arith, is t .exact)
 
 returns-2 : tie.Need-returns-2
-returns-2 c = let e = rw (c .before .before .before .before .before .before .before .before .word .ensures .0, c .before .before .before .before .before .before .before .word2 .ensures .0) at (c .before .before .put-parts .ensures) in
-    rw (← line-runs (now (c .before .before .before .before .before .before .before .before .before .before .before .before .before .args .input)) (tested (c .before .before .before .before .before .before .before .before .before))) e
+returns-2 c =
+    let p : tie.After-put-parts = search in
+    let v : tie.After-word2 = search in
+    let w : tie.After-word = search in
+    let t : tie.Else1 = search in
+    rw (← line-runs _ (tested t)) (rw (w .word .ensures .0, v .word2 .ensures .0) at (p .put-parts .ensures))
 
 pub put-line-spec : {M : Type 1} → statement M
 put-line-spec =

@@ -11,11 +11,18 @@ use Rattle.line.proofs.parts.put_run.Reads as put-run-reads
 use Rattle.line.proofs.text.put_all.Reads as put-all-reads
 
 slice-aggregate-put-run : tie.Need-slice-aggregate-put-run
-slice-aggregate-put-run c = let p = c .before .before .put-all .ensures in
-    p .behind ∙ zero-add _ ∙ sym (ap length (wrote-take _ _ _ _ (c .before .before .before .before .before .before .before .before .pre .0) p))
+slice-aggregate-put-run c =
+    let a : tie.After-put-all = search in
+    let s : tie.Start = search in
+    let p = a .put-all .ensures in
+    p .behind ∙ zero-add _ ∙ sym (ap length (wrote-take _ _ _ _ (s .pre .0) p))
 
 returns : tie.Need-returns
-returns c = rw (wrote-take _ _ _ _ (c .before .before .before .before .before .before .before .before .before .before .before .before .before .pre .0) (c .before .before .before .before .before .before .before .put-all .ensures)) at (c .before .before .before .put-run .ensures)
+returns c =
+    let r : tie.After-put-run = search in
+    let a : tie.After-put-all = search in
+    let s : tie.Start = search in
+    rw (wrote-take _ _ _ _ (s .pre .0) (a .put-all .ensures)) at (r .put-run .ensures)
 
 pub put-parts-spec : {M : Type 1} → statement M
 put-parts-spec =

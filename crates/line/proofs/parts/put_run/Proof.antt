@@ -12,13 +12,17 @@ use Rattle.line.proofs.report.put_report.Reads as put-report-reads
 use Rattle.search.proofs.run.Reads as run-reads
 
 put-report-requires : tie.Need-put-report-requires
-put-report-requires c κs = let s = c .before .before .before .before .before .before .before .before .before .before .before .before .before .before in
-    let r = c .before .before .before .before .before .before .run in
-    (λ f. found-shaped _ _ _ _ _ (ap (λ (x : Running). x .outcome .ending) (sym (r .ensures)) ∙ f), (omega (arith, r .kept .1 .1 .1 .1 .0), s .pre))
+put-report-requires c κs =
+    let r : tie.After-run = search in
+    let s : tie.Start = search in
+    (λ f. found-shaped _ _ _ _ _ (ap (λ (x : Running). x .outcome .ending) (sym (r .run .ensures)) ∙ f), (omega arith, s .pre))
 
 returns : tie.Need-returns
 unfolding lent
-returns c = rw (← c .before .before .before .before .before .before .before .before .before .run .ensures) (c .before .before .put-report .ensures)
+returns c =
+    let p : tie.After-put-report = search in
+    let r : tie.After-run = search in
+    rw (← r .run .ensures) (p .put-report .ensures)
 
 pub put-run-spec : {M : Type 1} → statement M
 put-run-spec =

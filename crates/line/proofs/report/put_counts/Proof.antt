@@ -10,12 +10,15 @@ use Rattle.line.proofs.text.put_all.Reads as put-all-reads
 use Rattle.line.proofs.text.put_decimal.Reads as put-decimal-reads
 
 returns : tie.Need-returns
-returns c = let w = c .before .before .before .before .before .before .before .before .before .before .before .before .before .before .before .before .before .before .put-all .ensures in
-    let m = c .before .before .before .before .before .before .before .before .before .before .before .before .before .before .put-decimal .ensures in
-    let b = c .before .before .before .before .before .before .before .before .before .before .put .ensures in
-    let f = c .before .before .before .before .before .before .put-decimal2 .ensures in
-    let e = c .before .before .put2 .ensures in
-    (wrote-then _ _ _ _ _ _ _ _ w (wrote-then _ _ _ _ _ _ _ _ (m .0) (wrote-then _ _ _ _ _ _ _ _ b (wrote-then _ _ _ _ _ _ _ _ (f .0) e))), omega (arith, w .behind, m .1, b .behind, f .1, e .behind, c .before .before .before .before .before .before .before .before .before .before .before .before .before .before .before .before .before .before .before .before .before .before .pre .0))
+returns c =
+    let e : tie.After-put2 = search in
+    let f : tie.After-put-decimal2 = search in
+    let b : tie.After-put = search in
+    let m : tie.After-put-decimal = search in
+    let w : tie.After-put-all = search in
+    let flips = wrote-then _ _ _ _ _ _ _ _ (f .put-decimal2 .ensures .0) (e .put2 .ensures) in
+    let moves = wrote-then _ _ _ _ _ _ _ _ (m .put-decimal .ensures .0) (wrote-then _ _ _ _ _ _ _ _ (b .put .ensures) flips) in
+    (wrote-then _ _ _ _ _ _ _ _ (w .put-all .ensures) moves, omega arith)
 
 pub put-counts-spec : {M : Type 1} → statement M
 put-counts-spec =

@@ -11,10 +11,12 @@ use Rattle.line.proofs.text.put.Reads as put-reads
 use Rattle.map.proofs.decode.word.Reads as word-reads
 
 returns : tie.Need-returns
-returns c = let w = c .before .before .before .before .before .before .before .before .before .before .put-counts .ensures in
-    let n = c .before .before .before .before .before .before .put-row .ensures in
-    let e = c .before .before .put .ensures in
-    (wrote-then _ _ _ _ _ _ _ _ (w .0) (wrote-then _ _ _ _ _ _ _ _ (n .0) e), omega (arith, w .1, n .1, e .behind, c .before .before .before .before .before .before .before .before .before .before .before .before .before .word .ensures .0, c .before .before .before .before .before .before .before .before .before .before .before .before .before .before .before .before .before .pre .0 .few))
+returns c =
+    let p : tie.After-put = search in
+    let r : tie.After-put-row = search in
+    let w : tie.After-put-counts = search in
+    let s : tie.Start = search in
+    (wrote-then _ _ _ _ _ _ _ _ (w .put-counts .ensures .0) (wrote-then _ _ _ _ _ _ _ _ (r .put-row .ensures .0) (p .put .ensures)), omega (arith, s .pre .0 .few))
 
 pub put-found-spec : {M : Type 1} → statement M
 put-found-spec =

@@ -18,14 +18,19 @@ use Rattle.map.proofs.decode.kind.Reads as kind-reads
 
 returns : tie.Need-returns
 unfolding inputText
-returns c = let s = c .before .before .before .before .before .before .before .before .before .before .before in
-    let i : isInput (kindOf (kindByte (now (s .args .map)) (s .args .g))) ≡ true = rw (← c .before .before .before .before .before .before .before .kind .ensures) (input-kind _ (c .before .before .before .before .before .before .if1 .taken)) in
-    let w = c .before .before .put .ensures in
-    rw (i, ← c .before .before .before .before .value-digit .ensures) (w, omega (arith, w .behind))
+returns c =
+    let p : tie.After-put = search in
+    let d : tie.After-value-digit = search in
+    let t : tie.Then1 = search in
+    let k : tie.After-kind = search in
+    let s : tie.Start = search in
+    let i : isInput (kindOf (kindByte (now (s .args .map)) (s .args .g))) ≡ true = rw (← k .kind .ensures) (input-kind _ (t .if1 .taken)) in
+    rw (i, ← d .value-digit .ensures) (p .put .ensures, omega arith)
 
 returns-2 : tie.Need-returns-2
 unfolding inputText
-returns-2 c = let s = c .before .before .before .before .before in
+returns-2 c =
+    let s : tie.Start = search in
     let i : isInput (kindOf (kindByte (now (s .args .map)) (s .args .g))) ≡ false = rw (← c .before .kind .ensures) (gate-kind _ (c .if1 .left)) in
     rw i (wrote-nothing _ _, omega arith)
 

@@ -10,10 +10,11 @@ use Rattle.line.proofs.text.put_all.Reads as put-all-reads
 use Rattle.line.proofs.text.put_decimal.Reads as put-decimal-reads
 
 returns : tie.Need-returns
-returns c = let w = c .before .before .before .before .before .before .before .before .before .before .put-all .ensures in
-    let n = c .before .before .before .before .before .before .put-decimal .ensures in
-    let e = c .before .before .put .ensures in
-    (wrote-then _ _ _ _ _ _ _ _ w (wrote-then _ _ _ _ _ _ _ _ (n .0) e), omega (arith, w .behind, n .1, e .behind))
+returns c =
+    let p : tie.After-put = search in
+    let d : tie.After-put-decimal = search in
+    let a : tie.After-put-all = search in
+    (wrote-then _ _ _ _ _ _ _ _ (a .put-all .ensures) (wrote-then _ _ _ _ _ _ _ _ (d .put-decimal .ensures .0) (p .put .ensures)), omega arith)
 
 pub put-refused-spec : {M : Type 1} → statement M
 put-refused-spec =

@@ -8,16 +8,27 @@ use Rattle.line.proofs.report.put_refused.Reads as put-refused-reads
 use Rattle.line.proofs.report.put_spent.Reads as put-spent-reads
 
 put-found-requires : tie.Need-put-found-requires
-put-found-requires c κs = let s = c .before .before .before .before .before .before in (s .pre .0 (c .before .enum-told .given .1), s .pre .1)
+put-found-requires c κs =
+    let s : tie.Start = search in
+    (s .pre .0 (c .before .enum-told .given .1), s .pre .1)
 
 returns : tie.Need-returns
-returns c = rw (c .before .before .before .before .enum-told .given .1) (c .before .before .put-found .ensures)
+returns c =
+    let p : tie.After-put-found = search in
+    let e : tie.After-enum-told = search in
+    rw (e .enum-told .given .1) (p .put-found .ensures)
 
 returns-2 : tie.Need-returns-2
-returns-2 c = rw (c .before .before .before .before .before .ending .given .1) (c .before .before .put-spent .ensures)
+returns-2 c =
+    let p : tie.After-put-spent = search in
+    let e : tie.After-ending = search in
+    rw (e .ending .given .1) (p .put-spent .ensures)
 
 returns-3 : tie.Need-returns-3
-returns-3 c = rw (c .before .before .before .before .before .ending2 .given .1) (c .before .before .put-refused .ensures)
+returns-3 c =
+    let p : tie.After-put-refused = search in
+    let e : tie.After-ending2 = search in
+    rw (e .ending2 .given .1) (p .put-refused .ensures)
 
 pub put-report-spec : {M : Type 1} → statement M
 put-report-spec =

@@ -25,20 +25,22 @@ loop-holds : tie.Need-loop-holds Inv-loop μ-loop
 loop-holds c = (omega arith, (rw (row-none _ _) (wrote-nothing _ _), (omega arith, refl)))
 
 put-input-requires : tie.Need-put-input-requires Inv-loop μ-loop
-put-input-requires c κs = let s = c .before .before .before .before .before .before in
-    let l = c .before .before .loop in
-    ((s .pre .0 .0, (s .pre .0 .1 .0, (omega arith, s .pre .0 .1 .1))), omega (arith, l .inv, s .pre .1))
+put-input-requires c κs =
+    let s : tie.Start Inv-loop μ-loop = search in
+    ((s .pre .0 .0, (s .pre .0 .1 .0, (omega arith, s .pre .0 .1 .1))), omega arith)
 
 loop-again : tie.Need-loop-again Inv-loop μ-loop
-loop-again c = let l = c .before .before .before .before .before .loop in
-    let p = c .before .before .put-input in
-    (omega arith, (row-next _ _ _ _ _ _ _ _ _ (l .inv .1 .0) (p .ensures .0), (omega (arith, p .ensures .1, l .inv .1 .1 .0), omega (arith, p .kept .1 .1 .1 .1 .0, l .inv .1 .1 .1))))
+loop-again c =
+    let p : tie.After-put-input Inv-loop μ-loop = search in
+    let l : tie.At-loop Inv-loop μ-loop = search in
+    (omega arith, (row-next _ _ _ _ _ _ _ _ _ (l .loop .inv .1 .0) (p .put-input .ensures .0), (omega arith, omega arith)))
 
 returns : tie.Need-returns Inv-loop μ-loop
-returns c = let s = c .before .before .before .before .before in
+returns c =
     let l = c .before .loop in
-    let e : l .g ≡ gateCount (now (s .args .map)) = omega (arith, l .inv .0, s .pre .0 .1 .0) in
-    (rw (← row-whole _ _ _ e) (l .inv .1 .0), omega (arith, l .inv .1 .1 .0))
+    let s : tie.Start Inv-loop μ-loop = search in
+    let e : l .g ≡ gateCount (now (s .args .map)) = omega arith in
+    (rw (← row-whole _ _ _ e) (l .inv .1 .0), omega arith)
 
 pub put-row-spec : {M : Type 1} → statement M
 put-row-spec =

@@ -10,10 +10,11 @@ use Rattle.line.proofs.text.put.Reads as put-reads
 use Rattle.line.proofs.text.put_decimal.Reads as put-decimal-reads
 
 returns : tie.Need-returns
-returns c = let w = c .before .before .before .before .before .before .before .before .before .before .put-counts .ensures in
-    let n = c .before .before .before .before .before .before .put-decimal .ensures in
-    let e = c .before .before .put .ensures in
-    (wrote-then _ _ _ _ _ _ _ _ (w .0) (wrote-then _ _ _ _ _ _ _ _ (n .0) e), omega (arith, w .1, n .1, e .behind))
+returns c =
+    let p : tie.After-put = search in
+    let d : tie.After-put-decimal = search in
+    let w : tie.After-put-counts = search in
+    (wrote-then _ _ _ _ _ _ _ _ (w .put-counts .ensures .0) (wrote-then _ _ _ _ _ _ _ _ (d .put-decimal .ensures .0) (p .put .ensures)), omega arith)
 
 pub put-spent-spec : {M : Type 1} → statement M
 put-spent-spec =

@@ -21,12 +21,16 @@ loop-holds : tie.Need-loop-holds Inv-loop μ-loop
 loop-holds c = (omega arith, (refl, (record { memory = refl; behind = refl }, refl)))
 
 loop-again : tie.Need-loop-again Inv-loop μ-loop
-loop-again c = let l = c .before .before .before .before .before .before .loop in
-    (omega arith, (refl, (wrote-next _ _ _ _ _ _ _ _ (omega arith) refl (l .inv .1 .1 .0) (c .before .before .put .ensures), omega (arith, c .before .before .put .kept .1 .0, l .inv .1 .1 .1))))
+loop-again c =
+    let p : tie.After-put Inv-loop μ-loop = search in
+    let l : tie.At-loop Inv-loop μ-loop = search in
+    (omega arith, (refl, (wrote-next _ _ _ _ _ _ _ _ (omega arith) refl (l .loop .inv .1 .1 .0) (p .put .ensures), omega arith)))
 
 returns : tie.Need-returns Inv-loop μ-loop
-returns c = let l = c .before .loop in
-    let e : l .i ≡ length (c .before .before .before .before .args .text .now) = omega (arith, l .inv .0) in
+returns c =
+    let l = c .before .loop in
+    let s : tie.Start Inv-loop μ-loop = search in
+    let e : l .i ≡ length (s .args .text .now) = omega arith in
     rw (← e) (wrote-whole _ _ _ _ _ e (l .inv .1 .1 .0))
 
 pub put-all-spec : {M : Type 1} → statement M
