@@ -10,11 +10,18 @@ use Rattle.map.proofs.check.Reads as check-reads
 
 returns : tie.Need-returns
 unfolding says
-returns c = rw (← (ap says (sym (c .before .k .given .1)) ∙ c .before .before .before .check .ensures)) (refl, refl)
+returns c =
+    let k : tie.After-k = search in
+    let h : tie.After-check = search in
+    rw (← (ap says (sym (k .k .given .1)) ∙ h .check .ensures)) (refl, refl)
 
 returns-2 : tie.Need-returns-2
 unfolding says
-returns-2 c = rw (← (ap says (sym (c .before .before .before .before .before .c .given .1)) ∙ c .before .before .before .before .before .before .before .check .ensures)) (c .before .before .four .ensures)
+returns-2 c =
+    let f : tie.After-four = search in
+    let n : tie.After-c = search in
+    let h : tie.After-check = search in
+    rw (← (ap says (sym (n .c .given .1)) ∙ h .check .ensures)) (f .four .ensures)
 
 pub peeriewick-check-spec : {M : Type 1} → statement M
 peeriewick-check-spec =

@@ -7,7 +7,10 @@ use Rattle.abi_state.proofs.place.two.Reads as two-reads
 use Rattle.abi_state.proofs.stretch.of.Reads as of-reads
 
 returns : tie.Need-returns
-returns c = let p = c .before .before .before .before .of .ensures in rw (← p .0, ← p .1) (c .before .before .two .ensures .1)
+returns c =
+    let t : tie.After-two = search in
+    let o : tie.After-of = search in
+    rw (← o .of .ensures .0, ← o .of .ensures .1) (t .two .ensures .1)
 
 pub peeriewick-children-spec : {M : Type 1} → statement M
 peeriewick-children-spec = tie.close (tie.spec (λ c κs. search needs) (λ c κs. search needs) (λ c. search needs) returns)

@@ -1,5 +1,4 @@
 use mathlib.Core.Path.{refl}
-use mathlib.Core.Path.{refl}
 use Rattle.state.specs.State.{writes}
 use borrow.Author.Needs.{needs}
 use Rattle.abi_state.proofs.peeriewick_evaluate.Statement.{statement}
@@ -10,11 +9,16 @@ use Rattle.state.proofs.evaluate.Reads as evaluate-reads
 
 returns : tie.Need-returns
 unfolding writes
-returns c = let q = rw (c .before .k .given .1) at (c .before .before .before .before .before .evaluate .ensures) in rw (← q) (refl, refl)
+returns c =
+    let k : tie.After-k = search in
+    let e : tie.After-evaluate = search in
+    rw (← (rw (k .k .given .1) at (e .evaluate .ensures))) (refl, refl)
 
 returns-2 : tie.Need-returns-2
 unfolding writes
-returns-2 c = let q = rw (c .enum-told .given .1) at (c .before .before .before .before .evaluate .ensures) in rw (← q) (refl, refl)
+returns-2 c =
+    let e : tie.After-evaluate = search in
+    rw (← (rw (c .enum-told .given .1) at (e .evaluate .ensures))) (refl, refl)
 
 pub peeriewick-evaluate-spec : {M : Type 1} → statement M
 peeriewick-evaluate-spec =

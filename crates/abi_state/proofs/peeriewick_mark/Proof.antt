@@ -10,15 +10,26 @@ use Rattle.state.proofs.mark.Reads as mark-reads
 
 returns : tie.Need-returns
 unfolding tells
-returns c = rw (← (ap tells (sym (c .before .k .given .1)) ∙ c .before .before .before .mark .ensures)) (refl, refl)
+returns c =
+    let k : tie.After-k = search in
+    let m : tie.After-mark = search in
+    rw (← (ap tells (sym (k .k .given .1)) ∙ m .mark .ensures)) (refl, refl)
 
 returns-2 : tie.Need-returns-2
 unfolding tells
-returns-2 c = rw (← (ap tells (sym (c .before .before .before .before .enum-told .given .1)) ∙ c .before .before .before .before .before .before .mark .ensures)) (c .before .before .one .ensures)
+returns-2 c =
+    let o : tie.After-one = search in
+    let t : tie.After-enum-told = search in
+    let m : tie.After-mark = search in
+    rw (← (ap tells (sym (t .enum-told .given .1)) ∙ m .mark .ensures)) (o .one .ensures)
 
 returns-3 : tie.Need-returns-3
 unfolding tells
-returns-3 c = rw (← (ap tells (sym (c .before .before .before .before .enum-told2 .given .1)) ∙ c .before .before .before .before .before .before .mark .ensures)) (c .before .before .one2 .ensures)
+returns-3 c =
+    let o : tie.After-one2 = search in
+    let t : tie.After-enum-told2 = search in
+    let m : tie.After-mark = search in
+    rw (← (ap tells (sym (t .enum-told2 .given .1)) ∙ m .mark .ensures)) (o .one2 .ensures)
 
 pub peeriewick-mark-spec : {M : Type 1} → statement M
 peeriewick-mark-spec =

@@ -8,7 +8,12 @@ use Rattle.abi_state.proofs.place.four.Lts as lts
 use Rattle.abi_state.proofs.place.put.Reads as put-reads
 
 returns : tie.Need-returns
-returns c = (refl, rw (c .before .before .put4 .ensures, c .before .before .before .before .before .before .put3 .ensures, c .before .before .before .before .before .before .before .before .before .before .put2 .ensures, c .before .before .before .before .before .before .before .before .before .before .before .before .before .before .put .ensures) (placed-four _ _ _ _ _))
+returns c =
+    let s : tie.After-put4 = search in
+    let r : tie.After-put3 = search in
+    let q : tie.After-put2 = search in
+    let p : tie.After-put = search in
+    (refl, rw (s .put4 .ensures, r .put3 .ensures, q .put2 .ensures, p .put .ensures) (placed-four _ _ _ _ _))
 
 pub four-spec : {M : Type 1} → statement M
 four-spec =

@@ -8,7 +8,10 @@ use Rattle.abi_state.proofs.place.two.Lts as lts
 use Rattle.abi_state.proofs.place.put.Reads as put-reads
 
 returns : tie.Need-returns
-returns c = (refl, rw (c .before .before .put2 .ensures, c .before .before .before .before .before .before .put .ensures) (placed-two _ _ _))
+returns c =
+    let q : tie.After-put2 = search in
+    let p : tie.After-put = search in
+    (refl, rw (q .put2 .ensures, p .put .ensures) (placed-two _ _ _))
 
 pub two-spec : {M : Type 1} → statement M
 two-spec = tie.close (tie.spec (λ c κs. search needs) (λ c κs. search needs) (λ c. search needs) returns)

@@ -14,11 +14,17 @@ use Rattle.map.proofs.check.Reads as check-reads
 
 within-requires : tie.Need-within-requires
 unfolding countsOf
-within-requires c κs = let t = was-accepted _ _ (ap says (sym (c .before .c .given .1)) ∙ c .before .before .before .check .ensures) in (t .0, ap (λ (n : Counts). n .gates) (t .1))
+within-requires c κs =
+    let n : tie.After-c = search in
+    let h : tie.After-check = search in
+    let t = was-accepted _ _ (ap says (sym (n .c .given .1)) ∙ h .check .ensures) in
+    (t .0, ap (λ (n : Counts). n .gates) (t .1))
 
 returns : tie.Need-returns
 unfolding countsOf
-returns c = no-map _ _ (was-refused _ _ (ap says (sym (c .enum-told .given .1)) ∙ c .before .before .check .ensures) .1)
+returns c =
+    let h : tie.After-check = search in
+    no-map _ _ (was-refused _ _ (ap says (sym (c .enum-told .given .1)) ∙ h .check .ensures) .1)
 
 pub of-spec : {M : Type 1} → statement M
 of-spec =

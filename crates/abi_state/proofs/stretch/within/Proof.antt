@@ -10,25 +10,32 @@ use Rattle.map.proofs.decode.fan_in.Reads as fan-in-reads
 use Rattle.map.proofs.decode.first_child.Reads as first-child-reads
 
 returns : tie.Need-returns
-returns c = no-gate _ _ (omega (arith, c .if1 .taken, c .before .before .pre .1))
+returns c = no-gate _ _ (omega arith)
 
 first-child-requires : tie.Need-first-child-requires
-first-child-requires c κs = let s = c .before .before in (facts _ (s .pre .0) .sound .placed .shaped, (s .pre .1, omega (arith, c .if1 .left)))
+first-child-requires c κs =
+    let s : tie.Start = search in
+    (facts _ (s .pre .0) .sound .placed .shaped, (s .pre .1, omega arith))
 
 fan-in-requires : tie.Need-fan-in-requires
-fan-in-requires c κs = let s = c .before .before .before in (facts _ (s .pre .0) .sound .placed .shaped, (s .pre .1, omega (arith, c .before .if1 .left)))
+fan-in-requires c κs =
+    let s : tie.Start = search in
+    (facts _ (s .pre .0) .sound .placed .shaped, (s .pre .1, omega arith))
 
 mul-t7 : tie.Need-mul-t7
-mul-t7 c = let s = c .before .before .before .before in omega (arith, s .pre .1, facts _ (s .pre .0) .sound .placed .shaped .few)
+mul-t7 c = let s : tie.Start = search in omega (arith, facts _ (s .pre .0) .sound .placed .shaped .few)
 
 add-t8 : tie.Need-add-t8
-add-t8 c = let s = c .before .before .before .before in omega (arith, s .pre .1, facts _ (s .pre .0) .sound .placed .shaped .few)
+add-t8 c = let s : tie.Start = search in omega (arith, facts _ (s .pre .0) .sound .placed .shaped .few)
 
 add-t10 : tie.Need-add-t10
-add-t10 c = let s = c .before .before .before .before in omega (arith, s .pre .1, facts _ (s .pre .0) .sound .placed .shaped .few, c .before .first-child .ensures .1)
+add-t10 c = let s : tie.Start = search in omega (arith, facts _ (s .pre .0) .sound .placed .shaped .few)
 
 returns-2 : tie.Need-returns-2
-returns-2 c = let s = c .before .before .before .before in a-gate _ _ _ _ _ (s .pre .0) (s .pre .1) (omega (arith, s .pre .1, c .before .before .if1 .left)) (c .before .first-child .ensures .0) (c .fan-in .ensures .0)
+returns-2 c =
+    let k : tie.After-first-child = search in
+    let s : tie.Start = search in
+    a-gate _ _ _ _ _ (s .pre .0) (s .pre .1) (omega arith) (k .first-child .ensures .0) (c .fan-in .ensures .0)
 
 pub within-spec : {M : Type 1} → statement M
 within-spec =
