@@ -1,5 +1,4 @@
 use mathlib.Core.Path.{refl}
-use mathlib.Core.Path.{refl}
 use Rattle.survey.specs.Survey.{reports}
 use borrow.Author.Needs.{needs}
 use Rattle.abi_survey.proofs.peeriewick_survey.Statement.{statement}
@@ -11,11 +10,18 @@ use Rattle.survey.proofs.survey.Reads as survey-reads
 
 returns : tie.Need-returns
 unfolding reports
-returns c = let q = rw (c .before .k .given .1) at (c .before .before .before .before .before .survey .ensures) in rw (← q) (refl, (refl, refl))
+returns c =
+    let k : tie.After-k = search in
+    let s : tie.After-survey = search in
+    rw (← (rw (k .k .given .1) at (s .survey .ensures))) (refl, (refl, refl))
 
 returns-2 : tie.Need-returns-2
 unfolding reports
-returns-2 c = let q = rw (c .before .before .before .before .before .before .before .z .given .1) at (c .before .before .before .before .before .before .before .before .before .before .before .survey .ensures) in let w = c .before .before .two .ensures in rw (← q) (w .0, (refl, w .1))
+returns-2 c =
+    let w : tie.After-two = search in
+    let z : tie.After-z = search in
+    let s : tie.After-survey = search in
+    rw (← (rw (z .z .given .1) at (s .survey .ensures))) (w .two .ensures .0, (refl, w .two .ensures .1))
 
 pub peeriewick-survey-spec : {M : Type 1} → statement M
 peeriewick-survey-spec =
