@@ -10,11 +10,18 @@ use Rattle.search.proofs.make_move.Reads as make-move-reads
 
 returns : tie.Need-returns
 unfolding did
-returns c = let q = rw (c .before .k .given .1) at (c .before .before .before .before .before .before .before .make-move .ensures) in rw (← q) (refl, (refl, (refl, refl)))
+returns c =
+    let k : tie.After-k = search in
+    let m : tie.After-make-move = search in
+    rw (← (rw (k .k .given .1) at (m .make-move .ensures))) (refl, (refl, (refl, refl)))
 
 returns-2 : tie.Need-returns-2
 unfolding did
-returns-2 c = let q = rw (c .before .before .before .before .before .before .t .given .1) at (c .before .before .before .before .before .before .before .before .before .before .before .before .make-move .ensures) in let w = c .before .before .two .ensures in rw (← q) (w .0, (refl, (refl, w .1)))
+returns-2 c =
+    let w : tie.After-two = search in
+    let t : tie.After-t = search in
+    let m : tie.After-make-move = search in
+    rw (← (rw (t .t .given .1) at (m .make-move .ensures))) (w .two .ensures .0, (refl, (refl, w .two .ensures .1)))
 
 pub peeriewick-move-spec : {M : Type 1} → statement M
 peeriewick-move-spec =

@@ -8,13 +8,24 @@ use Rattle.abi_state.proofs.place.four.Reads as four-reads
 use Rattle.search.proofs.run.Reads as run-reads
 
 returns : tie.Need-returns
-returns c = let q = c .before .before .before .before .before .before .before .before .before .before .before .run .ensures in rw (← q, c .before .ending .given .1) (refl, (refl, (refl, (refl, refl))))
+returns c =
+    let e : tie.After-ending = search in
+    let r : tie.After-run = search in
+    rw (← r .run .ensures, e .ending .given .1) (refl, (refl, (refl, (refl, refl))))
 
 returns-2 : tie.Need-returns-2
-returns-2 c = let q = c .before .before .before .before .before .before .before .before .before .before .before .before .before .before .run .ensures in let w = c .before .before .four .ensures in rw (← q, c .before .before .before .before .enum-told .given .1) (w .0, (refl, (refl, (refl, w .1))))
+returns-2 c =
+    let w : tie.After-four = search in
+    let e : tie.After-enum-told = search in
+    let r : tie.After-run = search in
+    rw (← r .run .ensures, e .enum-told .given .1) (w .four .ensures .0, (refl, (refl, (refl, w .four .ensures .1))))
 
 returns-3 : tie.Need-returns-3
-returns-3 c = let q = c .before .before .before .before .before .before .before .before .before .before .before .before .before .before .before .run .ensures in let w = c .before .before .four2 .ensures in rw (← q, c .before .before .before .before .before .ending2 .given .1) (w .0, (refl, (refl, (refl, w .1))))
+returns-3 c =
+    let w : tie.After-four2 = search in
+    let e : tie.After-ending2 = search in
+    let r : tie.After-run = search in
+    rw (← r .run .ensures, e .ending2 .given .1) (w .four2 .ensures .0, (refl, (refl, (refl, w .four2 .ensures .1))))
 
 pub peeriewick-run-spec : {M : Type 1} → statement M
 peeriewick-run-spec =
