@@ -12,12 +12,16 @@ use Rattle.cases.proofs.repeat.Reads as repeat-reads
 use Rattle.cases.proofs.run.Reads as run-reads
 
 slice-aggregate-run : tie.Need-slice-aggregate-run
-slice-aggregate-run c = let a = c .before .before .repeat in
-    sym (length-take-le (a .result) (a .last .1 .1 .0) (omega (arith, a .ensures, a .kept .1 .1 .0)))
+slice-aggregate-run c =
+    let p : tie.After-repeat = search in
+    let a = p .repeat in
+    sym (length-take-le (a .result) (a .last .1 .1 .0) (omega arith))
 
 slice-aggregate-program : tie.Need-slice-aggregate-program
-slice-aggregate-program c = let a = c .before .before .repeat2 in
-    sym (length-take-le (a .result) (a .last .1 .1 .0) (omega (arith, a .ensures, a .kept .1 .1 .0)))
+slice-aggregate-program c =
+    let p : tie.After-repeat2 = search in
+    let a = p .repeat2 in
+    sym (length-take-le (a .result) (a .last .1 .1 .0) (omega arith))
 
 pub long-case-spec : {M : Type 1} → statement M
 long-case-spec =

@@ -11,11 +11,15 @@ use Rattle.cases.proofs.at_most_2048.Reads as at-most-2048-reads
 use Rattle.cases.proofs.moved.Reads as moved-reads
 
 slice-aggregate-moved : tie.Need-slice-aggregate-moved
-slice-aggregate-moved c = let a = c .before .before .append in
-    sym (length-take-le (a .result) (a .last .1 .0) (omega (arith, a .ensures, a .kept .1 .0)))
+slice-aggregate-moved c =
+    let p : tie.After-append = search in
+    let a = p .append in
+    sym (length-take-le (a .result) (a .last .1 .0) (omega arith))
 
 slice-aggregate-moved-2 : tie.Need-slice-aggregate-moved-2
-slice-aggregate-moved-2 c = sym (length-take-le _ _ (c .before .before .before .before .before .at-most-2048 .ensures))
+slice-aggregate-moved-2 c =
+    let m : tie.After-at-most-2048 = search in
+    sym (length-take-le _ _ (m .at-most-2048 .ensures))
 
 pub make-move-spec : {M : Type 1} → statement M
 make-move-spec =

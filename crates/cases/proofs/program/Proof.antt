@@ -12,8 +12,10 @@ use Rattle.io.proofs.write_all.Reads as write-all-reads
 use Rattle.line.proofs.line.Reads as line-reads
 
 slice-aggregate-write-all : tie.Need-slice-aggregate-write-all
-slice-aggregate-write-all c = let l = c .before .before .before .line in
-    let h : l .result - 1 ≤ length (l .last .1 .0) = omega (arith, l .ensures .1, l .kept .1 .0) in
+slice-aggregate-write-all c =
+    let p : tie.After-line = search in
+    let l = p .line in
+    let h : l .result - 1 ≤ length (l .last .1 .0) = omega arith in
     sym (length-take-le _ _ h)
 
 pub program-spec : {M : Type 1} → statement M

@@ -11,14 +11,20 @@ use Rattle.cases.proofs.at_most_2048.Reads as at-most-2048-reads
 use Rattle.cases.proofs.run_into.Reads as run-into-reads
 
 slice-aggregate-run-into : tie.Need-slice-aggregate-run-into
-slice-aggregate-run-into c = let a = c .before .before .append in
-    sym (length-take-le (a .result) (a .last .1 .0) (omega (arith, a .ensures, a .kept .1 .0)))
+slice-aggregate-run-into c =
+    let p : tie.After-append = search in
+    let a = p .append in
+    sym (length-take-le (a .result) (a .last .1 .0) (omega arith))
 
 slice-aggregate-run-into-2 : tie.Need-slice-aggregate-run-into-2
-slice-aggregate-run-into-2 c = sym (length-take-le _ _ (c .before .before .before .before .before .before .at-most-2048 .ensures))
+slice-aggregate-run-into-2 c =
+    let m : tie.After-at-most-2048 = search in
+    sym (length-take-le _ _ (m .at-most-2048 .ensures))
 
 slice-aggregate-run-into-3 : tie.Need-slice-aggregate-run-into-3
-slice-aggregate-run-into-3 c = sym (length-take-le _ _ (c .before .before .before .before .before .before .at-most-20482 .ensures))
+slice-aggregate-run-into-3 c =
+    let m : tie.After-at-most-20482 = search in
+    sym (length-take-le _ _ (m .at-most-20482 .ensures))
 
 pub run-spec : {M : Type 1} → statement M
 run-spec =
