@@ -12,12 +12,17 @@ use Rattle.peeriewick.proofs.line_of.Lts as lts
 use Rattle.line.proofs.line.Reads as line-reads
 
 slice-aggregate-result : tie.Need-slice-aggregate-result
-slice-aggregate-result c = let l = c .before .before .before .before .line in
-    let h : l .result ≤ length (l .last .1 .0) = omega (arith, l .ensures .1, l .kept .1 .0) in
+slice-aggregate-result c =
+    let p : tie.After-line = search in
+    let l = p .line in
+    let h : l .result ≤ length (l .last .1 .0) = omega arith in
     sym (length-take-le _ _ h)
 
 returns : tie.Need-returns
-returns c = printed-line _ _ _ _ (c .before .before .before .before .before .before .before .before .pre) (c .before .before .before .before .line .ensures .0)
+returns c =
+    let l : tie.After-line = search in
+    let s : tie.Start = search in
+    printed-line _ _ _ _ (s .pre) (l .line .ensures .0)
 
 pub line-of-spec : {M : Type 1} → statement M
 line-of-spec = tie.close (tie.spec (λ c κs. search needs) slice-aggregate-result returns)
