@@ -6,7 +6,7 @@ use Rattle.search.proofs.options.count.Reads as reads
 use Rattle.search.proofs.options.count.Lts as lts
 use Rattle.map.proofs.decode.fan_in.Reads as fan-in-reads
 use Rattle.map.proofs.decode.kind.Reads as kind-reads
-use Rattle.map.proofs.kinds.options.Reads as options-reads
+use Rattle.kinds.proofs.options.Reads as options-reads
 
 returns : tie.Need-returns
 unfolding optionsOf

@@ -9,7 +9,7 @@ use Rattle.search.proofs.options.flip_child.Statement.{statement}
 use Rattle.search.proofs.options.flip_child.Tie as tie
 use Rattle.search.proofs.options.flip_child.Reads as reads
 use Rattle.search.proofs.options.flip_child.Lts as lts
-use Rattle.map.proofs.kinds.turns.Reads as turns-reads
+use Rattle.kinds.proofs.turns.Reads as turns-reads
 use Rattle.search.proofs.options.flip.Reads as flip-reads
 
 -- what the call told

@@ -36,15 +36,18 @@ loop-holds : tie.Need-loop-holds Inv-loop μ-loop
 loop-holds c = (search needs, sym (all-none _))
 
 loop-again : tie.Need-loop-again Inv-loop μ-loop
-loop-again c = let l = c .before .before .before .loop in
+loop-again c =
+    let l : tie.At-loop Inv-loop μ-loop = search in
     let w = c .larger .ensures in
-    (search needs, both _ _ _ 1 (w .0) (w .1 .0) (w .1 .1) ∙ rw (l .inv .1) (sym (all-next _ (l .i))))
+    (search needs, both _ _ _ 1 (w .0) (w .1 .0) (w .1 .1) ∙ rw (l .loop .inv .1) (sym (all-next _ (l .loop .i))))
 
 returns : tie.Need-returns Inv-loop μ-loop
 unfolding bitsTest
-returns c = let l = c .before .loop in
-    let e : l .i ≡ length (now (c .before .before .before .args .s)) = omega arith in
-    rw (← e) (l .inv .1)
+returns c =
+    let l : tie.At-loop Inv-loop μ-loop = search in
+    let s : tie.Start Inv-loop μ-loop = search in
+    let e : l .loop .i ≡ length (now (s .args .s)) = omega arith in
+    rw (← e) (l .loop .inv .1)
 
 pub bits-ok-spec : {M : Type 1} → statement M
 bits-ok-spec =

@@ -25,9 +25,11 @@ loop-again : tie.Need-loop-again Inv-loop μ-loop
 loop-again c = let l = c .before .loop in (search needs, (ap (λ (x : List ℕ). set x (l .i) 0) (l .inv .1 .0) ∙ fill-more (l .i) 0 _ (omega arith), simp length-set (l .inv .1 .1)))
 
 returns : tie.Need-returns Inv-loop μ-loop
-returns c = let l = c .before .loop in
-    let e : length (now (c .before .before .args .marks)) ≡ l .i = omega arith in
-    l .inv .1 .0 ∙ rw (← e, drop-length (now (c .before .before .args .marks))) (append-nil _)
+returns c =
+    let l : tie.At-loop Inv-loop μ-loop = search in
+    let s : tie.Start Inv-loop μ-loop = search in
+    let e : length (now (s .args .marks)) ≡ l .loop .i = omega arith in
+    l .loop .inv .1 .0 ∙ rw (← e, drop-length (now (s .args .marks))) (append-nil _)
 
 pub clear-spec : {M : Type 1} → statement M
 clear-spec =

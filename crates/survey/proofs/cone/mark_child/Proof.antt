@@ -16,7 +16,7 @@ use Rattle.survey.proofs.cone.mark_child.Statement.{statement}
 use Rattle.survey.proofs.cone.mark_child.Tie as tie
 use Rattle.survey.proofs.cone.mark_child.Reads as reads
 use Rattle.survey.proofs.cone.mark_child.Lts as lts
-use Rattle.map.proofs.kinds.relevant.Reads as relevant-reads
+use Rattle.kinds.proofs.relevant.Reads as relevant-reads
 use Rattle.survey.proofs.cone.child_mark.Reads as child-mark-reads
 
 -- a mark written anew is painted or stays
@@ -28,8 +28,11 @@ paint-one p x w = elim (which (p x)) [
 ]
 
 returns : tie.Need-returns
-returns c = let a = c .before .before .before .before .before .before .args in
-    rw (c .child-mark .ensures, c .before .before .relevant .ensures)
+returns c =
+    let r : tie.After-relevant = search in
+    let s : tie.Start = search in
+    let a = s .args in
+    rw (c .child-mark .ensures, r .relevant .ensures)
     (paint-one (λ y. relevant (kindOf (a .kind)) (a .v) (on (now (a .s)) y)) (a .x) (now (a .marks)))
 
 pub mark-child-spec : {M : Type 1} → statement M

@@ -25,14 +25,17 @@ loop-holds : tie.Need-loop-holds Inv-loop μ-loop
 loop-holds c = (search needs, (refl, search needs))
 
 loop-again : tie.Need-loop-again Inv-loop μ-loop
-loop-again c = let l = c .before .before .before .loop in
-    (search needs, (rw (add-one (l .g), place-more _ (l .g), ← l .inv .1 .0) (cc), search needs))
+loop-again c =
+    let l : tie.At-loop Inv-loop μ-loop = search in
+    (search needs, (rw (add-one (l .loop .g), place-more _ (l .loop .g), ← l .loop .inv .1 .0) (cc), search needs))
 
 returns : tie.Need-returns Inv-loop μ-loop
 unfolding interestCount
-returns c = let l = c .before .loop in
-    let e : length (now (c .before .before .before .args .marks)) ≡ l .g = omega arith in
-    rw e (l .inv .1 .0)
+returns c =
+    let l : tie.At-loop Inv-loop μ-loop = search in
+    let s : tie.Start Inv-loop μ-loop = search in
+    let e : length (now (s .args .marks)) ≡ l .loop .g = omega arith in
+    rw e (l .loop .inv .1 .0)
 
 pub size-spec : {M : Type 1} → statement M
 size-spec =
