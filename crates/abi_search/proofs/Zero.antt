@@ -4,7 +4,7 @@ use mathlib.Core.List.{_++_}
 use Rattle.map.specs.Check.{firstFailed, mapTests}
 use Rattle.search.specs.Move.{moveTests, Moving, movingBy, moving}
 use Rattle.map.specs.Map.{circuit}
-use Rattle.search.specs.Tape.{entries}
+use Rattle.tape.specs.Tape.{entries}
 use Rattle.search.specs.Run.{runTests, Told, Running, runningBy, running}
 use Rattle.search.proofs.RunMeaning.{run-ends}
 use Rattle.abi_state.proofs.Zero.{zero-of}

@@ -9,7 +9,7 @@ use Rattle.map.specs.Map.{circuit}
 use Rattle.state.specs.State.{over}
 use Rattle.search.specs.declared.Turn.{Turn}
 use Rattle.search.specs.declared.Moved.the-variants.{Done, Refused}
-use Rattle.search.specs.Tape.{entryAt}
+use Rattle.tape.specs.Tape.{entryAt}
 use Rattle.search.specs.Move.{did, movingBy}
 
 module _ (m s entry work : List ℕ) where

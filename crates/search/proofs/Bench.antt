@@ -3,7 +3,7 @@ use Prim.Native.Nat.{ℕ}
 use mathlib.Core.Path.{refl}
 use Rattle.circuit.specs.Run.{drawn, downOptions, optionAt, greedyOptions, chosen, turned, run, answer}
 use Rattle.circuit.specs.Bench.{clash, uncoded, corner}
-use Rattle.search.specs.Tape.{entryAt, entriesFrom, entries, tapeTest, kindsTest}
+use Rattle.tape.specs.Tape.{entryAt, entriesFrom, entries, tapeTest, kindsTest}
 use Rattle.search.specs.Move.{frontTest, entryTests, moveTests, movingBy, moving}
 use Rattle.search.specs.Run.{tapeTests, runTests, runningBy, running}
 use Rattle.search.specs.Bench.{cornerBytes, notsBytes, Examples}

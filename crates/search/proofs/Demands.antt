@@ -34,7 +34,7 @@ use Rattle.state.specs.State.{over}
 use Rattle.state.proofs.Over.{over-first, over-rest, over-long}
 use Rattle.state.proofs.Meaning.{evaluate-writes, evaluate-accepts, evaluate-number, evaluate-declines, mark-says, mark-accepts, mark-number, mark-declines}
 use Rattle.survey.proofs.Meaning.{survey-writes, survey-accepts, survey-number, survey-declines}
-use Rattle.search.specs.Tape.{entries}
+use Rattle.tape.specs.Tape.{entries}
 use Rattle.search.specs.Run.{tapeTests, runTests, Told, told, answered, ran, runningBy, running, Room, Runnable}
 use Rattle.search.specs.Demands.{Satisfies, FoundWrites, RunMeans, Demand1, Demand2, SameRun, SameForAllMemories, AreDraws, Way, Plain, tapeOf, Finishing, Demand3}
 use Rattle.search.proofs.Meaning.{move-writes, move-accepts, move-number, move-declines}

@@ -27,7 +27,7 @@ use Rattle.state.proofs.Over.{over-first, over-rest, over-long}
 use Rattle.state.proofs.Meaning.{behind}
 use Rattle.survey.specs.Survey.{startTests}
 use Rattle.survey.proofs.Starts.{behind-start, start-of, of-start, start-number}
-use Rattle.search.specs.Tape.{entryAt, kindsTest}
+use Rattle.tape.specs.Tape.{entryAt, kindsTest}
 use Rattle.search.specs.Move.{frontTest, entryTests, moveTests, movingBy, moving, MoveWrites, Movable, MoveAccepts, MoveNumber, MoveDeclines}
 use Rattle.search.proofs.Tapes.{entry-read}
 

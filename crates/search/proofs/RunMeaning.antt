@@ -26,7 +26,7 @@ use Rattle.map.proofs.Described.{tested, map-number}
 use Rattle.state.proofs.Meaning.{behind}
 use Rattle.survey.specs.Survey.{startTests}
 use Rattle.survey.proofs.Starts.{behind-start, start-of, of-start, start-number}
-use Rattle.search.specs.Tape.{entries, tapeTest}
+use Rattle.tape.specs.Tape.{entries, tapeTest}
 use Rattle.search.specs.Run.{tapeTests, runTests, Told, told, ran, runningBy, running, Room, Runnable, RunAccepts, RunNumber, RunDeclines}
 use Rattle.search.proofs.Tapes.{kinds-of, of-kinds}
 

@@ -16,7 +16,7 @@ use Rattle.map.specs.Check.{verdict, MapAccepts, CheckNumber, CheckAccepts, Che
 use Rattle.map.specs.Children.{StretchIs}
 use Rattle.state.specs.State.{marking, EvaluateWrites, EvaluateAccepts, EvaluateNumber, EvaluateDeclines, MarkSays, MarkAccepts, MarkNumber, MarkDeclines}
 use Rattle.survey.specs.Survey.{SurveyWrites, SurveyAccepts, SurveyNumber, SurveyDeclines}
-use Rattle.search.specs.Tape.{EntryRead, entries}
+use Rattle.tape.specs.Tape.{EntryRead, entries}
 use Rattle.search.specs.Move.{MoveWrites, MoveAccepts, MoveNumber, MoveDeclines}
 use Rattle.search.specs.Run.{Running, running, Room, RunAccepts, RunNumber, RunDeclines}
 

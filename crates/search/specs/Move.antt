@@ -18,7 +18,7 @@ use Rattle.state.specs.State.{over}
 use Rattle.survey.specs.Survey.{startTests, StartNumber}
 use Rattle.search.specs.declared.Moved.{Moved}
 use Rattle.search.specs.declared.Moved.the-variants.{Done, Refused}
-use Rattle.search.specs.Tape.{entryAt, EntryRead, kindsTest}
+use Rattle.tape.specs.Tape.{entryAt, EntryRead, kindsTest}
 
 -- ---- the tests
 

@@ -18,7 +18,7 @@ use Rattle.map.specs.Map.{gateCount, circuit}
 use Rattle.map.specs.Check.{firstFailed, mapTests, verdict, Test, MapNumber}
 use Rattle.state.specs.State.{over}
 use Rattle.survey.specs.Survey.{startTests, StartNumber}
-use Rattle.search.specs.Tape.{entries, tapeTest, kindsTest}
+use Rattle.tape.specs.Tape.{entries, tapeTest, kindsTest}
 
 -- ---- the tests
 

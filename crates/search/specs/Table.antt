@@ -19,7 +19,7 @@ use Rattle.state.specs.Bench.{memory}
 use Rattle.survey.specs.Survey.{surveying}
 use Rattle.survey.specs.Bench.{clashBytes, uncodedBytes, surveyed}
 use Rattle.search.specs.Move.{moving}
-use Rattle.search.specs.Tape.{entries}
+use Rattle.tape.specs.Tape.{entries}
 use Rattle.search.specs.Run.{Running, gave, declined, running}
 use Rattle.search.specs.Bench.{cornerBytes, greedy, down, up, moved}
 

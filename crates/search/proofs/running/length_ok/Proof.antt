@@ -1,6 +1,6 @@
 use borrow.Author.Tests.{ne-eqb}
 use Rattle.folds.specs.Folds.{_and_}
-use Rattle.search.specs.Tape.{tapeTest}
+use Rattle.tape.specs.Tape.{tapeTest}
 use Rattle.search.proofs.running.length_ok.Statement.{statement}
 use Rattle.search.proofs.running.length_ok.Tie as tie
 use Rattle.search.proofs.running.length_ok.Reads as reads

@@ -38,25 +38,25 @@ use denote.Triple.Table.{entered, cited}
 use denote.Triple.Walked.{says, Stays, stay-none, stay-none-slice, walkOf, goes-none, goes-none-slice, Walks, ends-at, walked, walk-meets}
 use denote.Exit.{yes}
 use denote.Triple.Clauses.{ensured, lasts}
-use Rattle.search.specs.Tape.{stepAt}
-use Rattle.search.specs.declared.tape.Tape.{Tape}
-use Rattle.search.specs.declared.tape.Step.{Step}
-use Rattle.search.proofs.tape.Tape as T
-use Rattle.search.proofs.tape.Tape.Laws as T′
-use Rattle.search.proofs.tape.Step as S
-use Rattle.search.proofs.tape.Step.Laws as S′
-use Rattle.search.proofs.tape.reader as reader
-use Rattle.search.proofs.tape.reader.Symbol as reader-def
-use Rattle.search.proofs.tape.reader.Symbol.{name as #tape·reader}
-use Rattle.search.proofs.tape.reader.Met as reader-thm
-use Rattle.search.proofs.tape.next as next
-use Rattle.search.proofs.tape.next.Symbol as next-def
-use Rattle.search.proofs.tape.next.Symbol.{name as #tape·next}
-use Rattle.search.proofs.tape.next.Met as next-thm
-use Rattle.search.proofs.tape.read.Key.{name as #tape·read}
-use Rattle.search.proofs.tape.read as read
-use Rattle.search.proofs.tape.read.Statement as stated
-use Rattle.search.proofs.tape.read.Code as code
+use Rattle.tape.specs.Tape.{stepAt}
+use Rattle.tape.specs.declared.Tape.{Tape}
+use Rattle.tape.specs.declared.Step.{Step}
+use Rattle.tape.proofs.Tape as T
+use Rattle.tape.proofs.Tape.Laws as T′
+use Rattle.tape.proofs.Step as S
+use Rattle.tape.proofs.Step.Laws as S′
+use Rattle.tape.proofs.reader as reader
+use Rattle.tape.proofs.reader.Symbol as reader-def
+use Rattle.tape.proofs.reader.Symbol.{name as #tape·reader}
+use Rattle.tape.proofs.reader.Met as reader-thm
+use Rattle.tape.proofs.next as next
+use Rattle.tape.proofs.next.Symbol as next-def
+use Rattle.tape.proofs.next.Symbol.{name as #tape·next}
+use Rattle.tape.proofs.next.Met as next-thm
+use Rattle.tape.proofs.read.Key.{name as #tape·read}
+use Rattle.tape.proofs.read as read
+use Rattle.tape.proofs.read.Statement as stated
+use Rattle.tape.proofs.read.Code as code
 
 -- the struct's type, over the signature's lifetimes
 abbrev B : Lfts 1 → RattleType
@@ -160,5 +160,5 @@ read-spec 𝓤 H 𝓜 𝓖 𝓡 =
     entered 𝓤 H (tripleOf 𝓤 H (𝓖 .A) read.signature (read.spec 𝓤 H (𝓖 .A) (𝓜 .mem) (𝓡 .run)))
     (tables 𝓤 H 𝓜 𝓡 code.env .C) (tables 𝓤 H 𝓜 𝓡 code.env .Λ) #tape·read code.function (code.unfolded 𝓤 H 𝓜 𝓡)
     (read-meets 𝓤 H (𝓖 .A) (givenOf 𝓤 H 𝓜 𝓖) (𝓜 .mem) (𝓡 .run) (tablesOf 𝓤 H 𝓜 (tables 𝓤 H 𝓜 𝓡 code.env))
-    (cited 𝓤 H (Reader 𝓤 H (𝓖 .A) (𝓜 .mem) (𝓡 .run)) 𝓜 𝓡 code.env #tape·reader reader-def.routine code.calls-search·tape·reader (reader-thm.met 𝓤 H 𝓜 𝓖 𝓡))
-    (cited 𝓤 H (Next 𝓤 H (𝓖 .A) (𝓜 .mem) (𝓡 .run)) 𝓜 𝓡 code.env #tape·next next-def.routine code.calls-search·tape·next (next-thm.met 𝓤 H 𝓜 𝓖 𝓡)))
+    (cited 𝓤 H (Reader 𝓤 H (𝓖 .A) (𝓜 .mem) (𝓡 .run)) 𝓜 𝓡 code.env #tape·reader reader-def.routine code.calls-tape·reader (reader-thm.met 𝓤 H 𝓜 𝓖 𝓡))
+    (cited 𝓤 H (Next 𝓤 H (𝓖 .A) (𝓜 .mem) (𝓡 .run)) 𝓜 𝓡 code.env #tape·next next-def.routine code.calls-tape·next (next-thm.met 𝓤 H 𝓜 𝓖 𝓡)))

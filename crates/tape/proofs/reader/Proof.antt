@@ -34,13 +34,13 @@ use denote.Triple.Spec.{Meets, tripleOf}
 use denote.Triple.Table.{entered}
 use denote.Triple.Walked.{says, Stays, stay-none, stay-none-slice, walkOf, goes-none, goes-none-slice, Walks, ends-at, walked, walk-meets}
 use denote.Exit.{yes}
-use Rattle.search.specs.declared.tape.Tape.{Tape}
-use Rattle.search.proofs.tape.Tape as T
-use Rattle.search.proofs.tape.Tape.Laws as T′
-use Rattle.search.proofs.tape.reader.Key.{name as #tape·reader}
-use Rattle.search.proofs.tape.reader as reader
-use Rattle.search.proofs.tape.reader.Statement as stated
-use Rattle.search.proofs.tape.reader.Code as code
+use Rattle.tape.specs.declared.Tape.{Tape}
+use Rattle.tape.proofs.Tape as T
+use Rattle.tape.proofs.Tape.Laws as T′
+use Rattle.tape.proofs.reader.Key.{name as #tape·reader}
+use Rattle.tape.proofs.reader as reader
+use Rattle.tape.proofs.reader.Statement as stated
+use Rattle.tape.proofs.reader.Code as code
 
 abbrev stayed : Stays (reader.ended .signature .params) (reader.ended .kept)
 stayed = (stay-none-slice (0 ∷ []) tt (plain (λ _. u8)) yes, (stay-none (λ _. usize) yes, tt))

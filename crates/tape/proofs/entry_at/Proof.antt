@@ -1,11 +1,11 @@
-use Rattle.search.specs.Tape.{entryAt}
+use Rattle.tape.specs.Tape.{entryAt}
 use borrow.Author.Needs.{needs}
-use Rattle.search.proofs.tape.entry_at.Statement.{statement}
-use Rattle.search.proofs.tape.entry_at.Tie as tie
-use Rattle.search.proofs.tape.entry_at.Reads as reads
-use Rattle.search.proofs.tape.entry_at.Lts as lts
+use Rattle.tape.proofs.entry_at.Statement.{statement}
+use Rattle.tape.proofs.entry_at.Tie as tie
+use Rattle.tape.proofs.entry_at.Reads as reads
+use Rattle.tape.proofs.entry_at.Lts as lts
 use Rattle.map.proofs.decode.word.Reads as word-reads
-use Rattle.search.proofs.tape.choice_of.Reads as choice-of-reads
+use Rattle.tape.proofs.choice_of.Reads as choice-of-reads
 
 returns : tie.Need-returns
 unfolding entryAt

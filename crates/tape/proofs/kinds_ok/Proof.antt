@@ -8,12 +8,12 @@ use lib.ListN.{length, getD}
 use borrow.Author.Tests.{le-leb, lt-leb}
 use Rattle.folds.specs.Folds.{allBelow}
 use Rattle.folds.proofs.Loops.{all-more, all-fails, all-done, loops-of}
-use Rattle.search.specs.Tape.{kindsTest}
+use Rattle.tape.specs.Tape.{kindsTest}
 use borrow.Author.Needs.{needs}
-use Rattle.search.proofs.tape.kinds_ok.Statement.{statement}
-use Rattle.search.proofs.tape.kinds_ok.Tie as tie
-use Rattle.search.proofs.tape.kinds_ok.Reads as reads
-use Rattle.search.proofs.tape.kinds_ok.Lts as lts
+use Rattle.tape.proofs.kinds_ok.Statement.{statement}
+use Rattle.tape.proofs.kinds_ok.Tie as tie
+use Rattle.tape.proofs.kinds_ok.Reads as reads
+use Rattle.tape.proofs.kinds_ok.Lts as lts
 
 abbrev Inv-loop : tie.InvT-loop
 Inv-loop tape n i₀ i = (i ≤ n) × (allBelow i (λ j. leb (getD tape (4 * j + 2) 0) 2) ≡ true)

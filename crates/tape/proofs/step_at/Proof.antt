@@ -3,13 +3,13 @@ use native.Mathlib.Omega.{arith}
 use Prim.Native.Nat.{_+_}
 use lib.ListN.{length}
 use borrow.Author.Tests.{le-leb, lt-leb}
-use Rattle.search.specs.Tape.{stepAt}
+use Rattle.tape.specs.Tape.{stepAt}
 use borrow.Author.Needs.{needs}
-use Rattle.search.proofs.tape.step_at.Statement.{statement}
-use Rattle.search.proofs.tape.step_at.Tie as tie
-use Rattle.search.proofs.tape.step_at.Reads as reads
-use Rattle.search.proofs.tape.step_at.Lts as lts
-use Rattle.search.proofs.tape.entry_at.Reads as entry-at-reads
+use Rattle.tape.proofs.step_at.Statement.{statement}
+use Rattle.tape.proofs.step_at.Tie as tie
+use Rattle.tape.proofs.step_at.Reads as reads
+use Rattle.tape.proofs.step_at.Lts as lts
+use Rattle.tape.proofs.entry_at.Reads as entry-at-reads
 
 returns : tie.Need-returns
 unfolding stepAt

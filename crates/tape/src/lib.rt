@@ -5,7 +5,7 @@ use map::decode;
 ghost use mathlib.Core.Path.{_≡_};
 ghost use Prim.Native.Nat.{_+_, _≤_};
 ghost use lib.ListN.{length};
-ghost use Rattle.search.specs.Tape.{choiceOf, entryAt, stepAt, kindsTest};
+ghost use Rattle.tape.specs.Tape.{choiceOf, entryAt, stepAt, kindsTest};
 
 // The tape reader: the lent tape and the place reached.
 pub struct Tape<'a> {

@@ -1,11 +1,11 @@
 use Prim.Native.Nat.{ℕ, zero, suc}
 use mathlib.Core.Path.{_≡_, refl}
 use Rattle.circuit.specs.declared.Choice.the-variants.{Up}
-use Rattle.search.specs.Tape.{choiceOf}
-use Rattle.search.proofs.tape.choice_of.Statement.{statement}
-use Rattle.search.proofs.tape.choice_of.Tie as tie
-use Rattle.search.proofs.tape.choice_of.Reads as reads
-use Rattle.search.proofs.tape.choice_of.Lts as lts
+use Rattle.tape.specs.Tape.{choiceOf}
+use Rattle.tape.proofs.choice_of.Statement.{statement}
+use Rattle.tape.proofs.choice_of.Tie as tie
+use Rattle.tape.proofs.choice_of.Reads as reads
+use Rattle.tape.proofs.choice_of.Lts as lts
 
 -- the kinds from 2 on
 up : (k i : ℕ) → (k ≡ 0 → ⊥) → (k ≡ 1 → ⊥) → Up i ≡ choiceOf k i

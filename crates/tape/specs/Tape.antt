@@ -10,8 +10,8 @@ use Rattle.circuit.specs.declared.Choice.{Choice}
 use Rattle.circuit.specs.declared.Choice.the-variants.{Greedy, Down, Up}
 use Rattle.circuit.specs.declared.Entry.{Entry}
 use Rattle.map.specs.Map.{u16At}
-use Rattle.search.specs.declared.tape.Step.{Step}
-use Rattle.search.specs.declared.tape.Step.the-variants.{Next, End}
+use Rattle.tape.specs.declared.Step.{Step}
+use Rattle.tape.specs.declared.Step.the-variants.{Next, End}
 
 -- "kind (0 greedy, 1 down, 2 up), option". Kinds above 2 have no choice: test 13 excludes them, and the last clause stands for them.
 abbrev pub choiceOf : ℕ → ℕ → Choice
