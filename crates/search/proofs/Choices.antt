@@ -13,8 +13,7 @@ use Rattle.circuit.specs.declared.Choice.the-variants.{Greedy}
 use Rattle.circuit.specs.Tools.{upTo, select, holdsOfAll, pick}
 use Rattle.circuit.specs.Gate.{kindOf}
 use Rattle.circuit.specs.Circuit.{on, justified}
-use Rattle.circuit.specs.Survey.{interestSize}
-use Rattle.circuit.specs.Run.{downOptions, optionAt, turn, greedyOptions, chosen}
+use Rattle.circuit.specs.Run.{downOptions, optionAt, greedyOptions, chosen}
 use Rattle.circuit.proofs.Lists.{map-at, map-append, length-upTo, in-upTo, select-same, select-images}
 use Rattle.circuit.proofs.Turns.{option-few}
 use Rattle.map.specs.Map.{gateCount, kindByte, fanIn, childAt, kidsOf, circuit}
@@ -23,7 +22,7 @@ use Rattle.map.proofs.Accepted.{well-formed}
 use Rattle.kinds.proofs.ByPlace.{options-by}
 use Rattle.state.proofs.Filling.{store}
 use Rattle.search.proofs.Best.{some-best, best-below}
-use Rattle.search.specs.Options.{optionsOf, optionHas, optionUpTo, optionGates, bests, bestAt, weightsOf}
+use Rattle.search.specs.Options.{optionsOf, optionHas, optionUpTo, optionGates, bests, bestAt, weightsOf, interestAfter}
 
 -- ---- lists of images
 
@@ -64,7 +63,7 @@ module _ (m s : List ℕ) (g : ℕ) where
   -- ---- greedy
 
   abbrev weight : ℕ → ℕ
-  weight i = interestSize (circuit m) (turn (optionGates m s g i) s)
+  weight i = interestAfter m s (optionGates m s g i)
 
   -- the options that greedy picks from, by their places
   best-options : (n : ℕ) → greedyOptions (circuit m) s (map (optionGates m s g) (upTo n))
@@ -72,34 +71,34 @@ module _ (m s : List ℕ) (g : ℕ) where
   unfolding greedyOptions
   best-options n = select-images (optionGates m s g) _ (upTo n) ∙ ap (map (optionGates m s g)) (select-same _ _ (upTo n) (λ i j. all-images (optionGates m s g) _ (upTo n)))
 
-  weights-at : (rest : List ℕ) (n i : ℕ) → i < n → getD (weightsOf m s g n ++ rest) i 0 ≡ weight i
+  weights-at : (rest : List ℕ) (n i : ℕ) → i < n → getD (weightsOf (interestAfter m s) m s g n ++ rest) i 0 ≡ weight i
   unfolding weightsOf
   weights-at rest n i l = List·getD-append (map weight (upTo n)) rest 0 i (rw (length-map, length-upTo) l) ∙ map-at weight n i 0 l
 
   best-weights : (rest : List ℕ) (n : ℕ) → select (λ i. holdsOfAll (λ k. leb (weight i) (weight k)) (upTo n)) (upTo n)
-      ≡ select (λ i. holdsOfAll (λ k. leb (getD (weightsOf m s g n ++ rest) i 0) (getD (weightsOf m s g n ++ rest) k 0)) (upTo n)) (upTo n)
+      ≡ select (λ i. holdsOfAll (λ k. leb (getD (weightsOf (interestAfter m s) m s g n ++ rest) i 0) (getD (weightsOf (interestAfter m s) m s g n ++ rest) k 0)) (upTo n)) (upTo n)
   best-weights rest n = select-same _ _ (upTo n) (λ i j. all-same _ _ (upTo n) (λ k l.
       rw (weights-at rest n i (in-upTo i n j), weights-at rest n k (in-upTo k n l))))
 
-  pub greedy-is : (rest : List ℕ) (i j : ℕ) → bestAt (weightsOf m s g (optionsOf m s g) ++ rest) (optionsOf m s g) i ≡ j → 1 ≤ optionsOf m s g
+  pub greedy-is : (rest : List ℕ) (i j : ℕ) → bestAt (weightsOf (interestAfter m s) m s g (optionsOf m s g) ++ rest) (optionsOf m s g) i ≡ j → 1 ≤ optionsOf m s g
       → chosen (circuit m) s g (Greedy i) ≡ optionGates m s g j
   unfolding chosen bestAt
   greedy-is rest i j e h =
       ap (λ (os : List (List ℕ)). pick (greedyOptions (circuit m) s os) i []) down-options
       ∙ ap (λ (os : List (List ℕ)). pick os i []) (best-options (optionsOf m s g) ∙ ap (map (optionGates m s g)) (best-weights rest (optionsOf m s g)))
-      ∙ pick-image (optionGates m s g) [] (bests (weightsOf m s g (optionsOf m s g) ++ rest) (optionsOf m s g)) i (some-best (weightsOf m s g (optionsOf m s g) ++ rest) (optionsOf m s g) h)
+      ∙ pick-image (optionGates m s g) [] (bests (weightsOf (interestAfter m s) m s g (optionsOf m s g) ++ rest) (optionsOf m s g)) i (some-best (weightsOf (interestAfter m s) m s g (optionsOf m s g) ++ rest) (optionsOf m s g) h)
       ∙ ap (optionGates m s g) e
 
   -- a single option is the best
   pub greedy-one : (i : ℕ) → optionsOf m s g ≡ 1 → chosen (circuit m) s g (Greedy i) ≡ optionGates m s g 0
-  greedy-one i e = let b = best-below (weightsOf m s g (optionsOf m s g) ++ []) (optionsOf m s g) i (omega arith) in greedy-is [] i 0 (omega arith) (omega arith)
+  greedy-one i e = let b = best-below (weightsOf (interestAfter m s) m s g (optionsOf m s g) ++ []) (optionsOf m s g) i (omega arith) in greedy-is [] i 0 (omega arith) (omega arith)
 
   -- ---- the loop that weighs
 
-  pub weights-none : (w : List ℕ) → w ≡ weightsOf m s g 0 ++ drop 0 w
+  pub weights-none : (w : List ℕ) → w ≡ weightsOf (interestAfter m s) m s g 0 ++ drop 0 w
   unfolding weightsOf
   weights-none w = refl
 
-  pub weights-more : (w : List ℕ) (i v : ℕ) → i < length w → v ≡ weight i → set (weightsOf m s g i ++ drop i w) i v ≡ weightsOf m s g (i + 1) ++ drop (i + 1) w
+  pub weights-more : (w : List ℕ) (i v : ℕ) → i < length w → v ≡ weight i → set (weightsOf (interestAfter m s) m s g i ++ drop i w) i v ≡ weightsOf (interestAfter m s) m s g (i + 1) ++ drop (i + 1) w
   unfolding weightsOf
   weights-more w i v l e = rw (add-one i, e, map-append weight (upTo i) (i ∷ [])) (store (map weight (upTo i)) w i (weight i) (length-map (upTo i) weight ∙ length-upTo i) l)

@@ -6,6 +6,7 @@ pub mod Fronts
 pub mod Answers
 pub mod Meaning
 pub mod Bench
+pub mod Passed
 pub mod Runs
 pub mod Tapes
 pub mod RunMeaning

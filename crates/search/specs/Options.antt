@@ -50,6 +50,10 @@ pub record Least (w : List ℕ) (n v : ℕ) : Type 0 where
   pub below : at < n
   pub is : getD w at 0 ≡ v
 
--- the sizes of the interest set after each of the first n options of gate g
-unfoldable pub weightsOf : List ℕ → List ℕ → ℕ → ℕ → List ℕ
-weightsOf m s g n = map (λ i. interestSize (circuit m) (turn (optionGates m s g i) s)) (upTo n)
+-- the weights of the first n options of gate g
+unfoldable pub weightsOf : (List ℕ → ℕ) → List ℕ → List ℕ → ℕ → ℕ → List ℕ
+weightsOf weight m s g n = map (λ i. weight (optionGates m s g i)) (upTo n)
+
+-- what greedy weighs an option by: the size of the interest set after it
+abbrev pub interestAfter : List ℕ → List ℕ → List ℕ → ℕ
+interestAfter m s o = interestSize (circuit m) (turn o s)

@@ -18,7 +18,7 @@ use Rattle.map.specs.Map.{gateCount, circuit}
 use Rattle.map.specs.Check.{firstFailed, mapTests, verdict, Test, MapNumber}
 use Rattle.state.specs.State.{over}
 use Rattle.survey.specs.Survey.{startTests, StartNumber}
-use Rattle.tape.specs.Tape.{entries, tapeTest, kindsTest}
+use Rattle.tape.specs.Tape.{mostTape, entries, tapeTest, kindsTest}
 
 -- ---- the tests
 
@@ -93,7 +93,7 @@ pub record Runnable (m s tape work ans : List ℕ) : Type 0 where
   pub accepted : verdict m ≡ 0
   pub start : KeepsCodes (circuit m) s
   pub whole-entries : length tape % 4 ≡ 0
-  pub not-longer : length tape ≤ 65532
+  pub not-longer : length tape ≤ mostTape
   pub kinds : (i : ℕ) → 4 * i < length tape → getD tape (4 * i + 2) 0 ≤ 2
   pub room : Room m work ans
 
@@ -103,7 +103,7 @@ RunAccepts = (m s tape work ans : List ℕ) → (running m s tape work ans .told
 -- Its number: 12 to 14 behind those of the map and of a start
 abbrev pub TapeNumber : ℕ → List ℕ → List ℕ → List ℕ → List ℕ → Type 0
 TapeNumber n m tape work ans =
-    Test n 12 ((length tape % 4 ≡ 0) × (length tape ≤ 65532)) (
+    Test n 12 ((length tape % 4 ≡ 0) × (length tape ≤ mostTape)) (
     Test n 13 ((i : ℕ) → 4 * i < length tape → getD tape (4 * i + 2) 0 ≤ 2) (
     Test n 14 (Room m work ans) (n ≡ 0)))
 

@@ -42,8 +42,11 @@ unfoldable pub entries : List ℕ → List Entry
 entries t = entriesFrom t 0 (length t / 4)
 
 -- "12. The tape's length isn't a multiple of 4, is above 65,532": true where neither is so
+abbrev pub mostTape : ℕ
+mostTape = 65532
+
 unfoldable pub tapeTest : List ℕ → Bool
-tapeTest t = eqb (length t % 4) 0 and leb (length t) 65532
+tapeTest t = eqb (length t % 4) 0 and leb (length t) mostTape
 
 -- "13. An entry, even one never reached, has a kind above 2.": true where none has
 unfoldable pub kindsTest : List ℕ → Bool

@@ -5,7 +5,10 @@ use map::decode;
 ghost use mathlib.Core.Path.{_≡_};
 ghost use Prim.Native.Nat.{_+_, _≤_};
 ghost use lib.ListN.{length};
-ghost use Rattle.tape.specs.Tape.{choiceOf, entryAt, stepAt, kindsTest};
+ghost use Rattle.tape.specs.Tape.{choiceOf, entryAt, stepAt, tapeTest, kindsTest};
+
+// The longest tape, in bytes.
+pub const MOST_TAPE: usize = 65532;
 
 // The tape reader: the lent tape and the place reached.
 pub struct Tape<'a> {
@@ -73,6 +76,13 @@ pub fn read(tape: &[u8], at: usize) -> Step
     ensures { λ r. ⌜ r ≡ stepAt (now (tape .entry)) at ⌝ }
 {
     next(reader(tape, at))
+}
+
+// Test 12 for Run.
+pub fn length_ok(tape: &[u8]) -> bool
+    ensures { λ r. ⌜ r ≡ tapeTest (now (tape .entry)) ⌝ }
+{
+    tape.len() % 4 == 0 && tape.len() <= MOST_TAPE
 }
 
 // Test 13.

@@ -1,10 +1,10 @@
 use borrow.Author.Tests.{ne-eqb}
 use Rattle.folds.specs.Folds.{_and_}
 use Rattle.tape.specs.Tape.{tapeTest}
-use Rattle.search.proofs.running.length_ok.Statement.{statement}
-use Rattle.search.proofs.running.length_ok.Tie as tie
-use Rattle.search.proofs.running.length_ok.Reads as reads
-use Rattle.search.proofs.running.length_ok.Lts as lts
+use Rattle.tape.proofs.length_ok.Statement.{statement}
+use Rattle.tape.proofs.length_ok.Tie as tie
+use Rattle.tape.proofs.length_ok.Reads as reads
+use Rattle.tape.proofs.length_ok.Lts as lts
 
 returns : tie.Need-returns
 unfolding tapeTest _and_
