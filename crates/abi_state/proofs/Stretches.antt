@@ -3,7 +3,7 @@ use Prim.Native.Nat.{ℕ, _+_, _*_, _≤_, _<_}
 use mathlib.Core.Path.{_≡_, refl, sym}
 use mathlib.Core.Bool.{false}
 use mathlib.Core.List.{List}
-use Rattle.map.specs.Map.{gateCount, fanIn, firstChild}
+use Rattle.map.specs.Map.{gateCount, childrenAt, fanIn, firstChild}
 use Rattle.map.specs.Check.{verdict}
 use Rattle.map.specs.Children.{hasGate, stretchAt, stretchLength}
 use Rattle.map.proofs.Parts.{declined, past-end, stretch-is}
@@ -19,6 +19,6 @@ module _ (m : List ℕ) (g : ℕ) where
   pub no-gate : gateCount m ≤ g → (0 ≡ stretchAt m g) × (0 ≡ stretchLength m g)
   no-gate h = none (past-end m g h)
 
-  pub a-gate : (gates first fan : ℕ) → verdict m ≡ 0 → gates ≡ gateCount m → g < gateCount m → first ≡ firstChild m g → fan ≡ fanIn m g
-      → (12 + 4 * gates + 2 * first ≡ stretchAt m g) × (2 * fan ≡ stretchLength m g)
-  a-gate gates first fan v e l p q = rw (p, q, e) (sym (stretch-is m g .place v l), sym (stretch-is m g .long v l))
+  pub a-gate : (at fan : ℕ) → verdict m ≡ 0 → g < gateCount m → at ≡ childrenAt m + 2 * firstChild m g → fan ≡ fanIn m g
+      → (at ≡ stretchAt m g) × (2 * fan ≡ stretchLength m g)
+  a-gate at fan v l p q = rw (p, q) (sym (stretch-is m g .place v l), sym (stretch-is m g .long v l))

@@ -10,7 +10,7 @@ use Rattle.circuit.specs.declared.Ending.{Ending}
 use Rattle.circuit.specs.declared.Ending.the-variants.{Found, Spent, Refused}
 use Rattle.circuit.specs.Gate.{kindOf, isInput}
 use Rattle.circuit.specs.Evaluate.{rowOf}
-use Rattle.map.specs.Map.{u16At, kindByte, circuit}
+use Rattle.map.specs.Map.{mostGates, u16At, kindByte, circuit}
 use Rattle.state.specs.State.{over}
 use Rattle.search.specs.Run.{Running, running, Room}
 use Rattle.line.specs.Text.{foundWord, spentWord, refusedWord, blank, lineEnd, digit, decimal}
@@ -37,13 +37,16 @@ abbrev pub tapePart : List ℕ → List ℕ
 tapePart x = between (tapeAt x) (length x) x
 
 -- "the number is 0 if the input passes 65,536 bytes or isn't exactly the 6 bytes and the three lengths together": true where neither is so
+abbrev pub mostInput : ℕ
+mostInput = 65536
+
 unfoldable pub inputTest : List ℕ → Bool
-inputTest x = leb (length x) 65536 and eqb (length x) (tapeAt x + u16At x 4)
+inputTest x = leb (length x) mostInput and eqb (length x) (tapeAt x + u16At x 4)
 
 -- the work and the answer memory that the program lends Run: 1,024 bytes each, enough for every map, all 0; any others that
 -- number 14 lets through would do (`SameForAllMemories` in search/specs/Demands.antt, and `SameLineForAllMemories` below)
 unfoldable pub lent : List ℕ
-lent = replicate 1024 0
+lent = replicate mostGates 0
 
 -- "Row is the answer's input values in gate order, one digit each."
 abbrev pub rowText : List ℕ → List ℕ → List ℕ
@@ -88,7 +91,7 @@ inputOf m s tape = length m % 256 ∷ length m / 256 ∷ length s % 256 ∷ leng
 
 -- An input of exactly these bodies, at most 65,536 bytes in all, gives the line of the run on them.
 abbrev pub ExactInput : Type 0
-ExactInput = (m s tape : List ℕ) → 6 + length m + length s + length tape ≤ 65536 → lineOf (inputOf m s tape) ≡ runLine m (running m s tape lent lent)
+ExactInput = (m s tape : List ℕ) → 6 + length m + length s + length tape ≤ mostInput → lineOf (inputOf m s tape) ≡ runLine m (running m s tape lent lent)
 
 -- Any work and answer memory that number 14 lets through would give the same line.
 abbrev pub SameLineForAllMemories : Type 0
@@ -96,14 +99,17 @@ SameLineForAllMemories = (m s tape work ans : List ℕ) → Room m work ans → 
 
 -- "the number is 0 if the input passes 65,536 bytes or isn't exactly the 6 bytes and the three lengths together"
 abbrev pub TooLong : Type 0
-TooLong = (x : List ℕ) → 65536 < length x → lineOf x ≡ refusedLine 0
+TooLong = (x : List ℕ) → mostInput < length x → lineOf x ≡ refusedLine 0
 
 abbrev pub NotExact : Type 0
 NotExact = (x : List ℕ) → ¬ (length x ≡ 6 + u16At x 0 + u16At x 2 + u16At x 4) → lineOf x ≡ refusedLine 0
 
 -- The program reads 65,537 bytes at most, and the line for these is the line for the whole input.
+abbrev pub inputRoom : ℕ
+inputRoom = mostInput + 1
+
 abbrev pub CutInput : Type 0
-CutInput = (x : List ℕ) → lineOf (take 65537 x) ≡ lineOf x
+CutInput = (x : List ℕ) → lineOf (take inputRoom x) ≡ lineOf x
 
 -- memory that holds every line
 abbrev pub lineRoom : ℕ

@@ -8,8 +8,11 @@ ghost use Prim.Native.Nat.{_≤_};
 ghost use lib.ListN.{length};
 ghost use Rattle.line.specs.Line.{printed, printing};
 
+// The longest input that the program takes.
+pub const MOST_INPUT: usize = 65536;
+
 // Memory for standard input: one byte more than an input may have tells that it is too long (`CutInput` in specs/Line.antt).
-pub const INPUT_ROOM: usize = 65537;
+pub const INPUT_ROOM: usize = MOST_INPUT + 1;
 
 // Memory that holds every line (`LineFits` in specs/Line.antt).
 pub const LINE_ROOM: usize = 1100;

@@ -1,21 +1,23 @@
 // The parts of an input, and the line of the run on them.
+use super::MOST_INPUT;
 use super::report;
 use super::text;
+use map::MOST_GATES;
 use map::decode;
 ghost use mathlib.Core.Path.{_≡_};
 ghost use Prim.Native.Nat.{_≤_};
 ghost use lib.ListN.{length};
 ghost use Rattle.search.specs.Run.{running};
 ghost use Rattle.line.specs.Text.{Wrote};
-ghost use Rattle.line.specs.Line.{lineRoom, lent, runLine, inputTest, lineOf};
+ghost use Rattle.line.specs.Line.{mostInput, lineRoom, lent, runLine, inputTest, lineOf};
 
 // Runs, with work and answer memory for every map, and writes the line.
 fn put_run(map: &[u8], configuration: &mut [u8], tape: &[u8], out: &mut [u8]) -> usize
     requires { ⌜ lineRoom ≤ length (now out) ⌝ }
     ensures { λ r. ⌜ Wrote 0 (runLine (now (map .entry)) (running (now (map .entry)) (now (configuration .entry)) (now (tape .entry)) lent lent)) (now (out .entry)) (now (out .exit)) r × (r ≤ lineRoom) ⌝ }
 {
-    let mut work = [0u8; 1024];
-    let mut answer = [0u8; 1024];
+    let mut work = [0u8; MOST_GATES];
+    let mut answer = [0u8; MOST_GATES];
     let outcome = search::run(map, configuration, tape, &mut work, &mut answer);
     let ending = outcome.ending;
     let moves = outcome.moves;
@@ -25,10 +27,10 @@ fn put_run(map: &[u8], configuration: &mut [u8], tape: &[u8], out: &mut [u8]) ->
 
 // The same on a copy of the configuration, which a run changes.
 fn put_parts(map: &[u8], configuration: &[u8], tape: &[u8], out: &mut [u8]) -> usize
-    requires { ⌜ (length (now configuration) ≤ 65536) × (lineRoom ≤ length (now out)) ⌝ }
+    requires { ⌜ (length (now configuration) ≤ mostInput) × (lineRoom ≤ length (now out)) ⌝ }
     ensures { λ r. ⌜ Wrote 0 (runLine (now (map .entry)) (running (now (map .entry)) (now (configuration .entry)) (now (tape .entry)) lent lent)) (now (out .entry)) (now (out .exit)) r × (r ≤ lineRoom) ⌝ }
 {
-    let mut space = [0u8; 65536];
+    let mut space = [0u8; MOST_INPUT];
     let n = text::put_all(configuration, &mut space, 0);
     put_run(map, &mut space[..n], tape, out)
 }
@@ -37,7 +39,7 @@ fn put_parts(map: &[u8], configuration: &[u8], tape: &[u8], out: &mut [u8]) -> u
 fn is_whole(input: &[u8]) -> bool
     ensures { λ r. ⌜ r ≡ inputTest (now (input .entry)) ⌝ }
 {
-    if 65536 < input.len() {
+    if MOST_INPUT < input.len() {
         return false;
     }
     if input.len() < 6 {

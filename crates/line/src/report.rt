@@ -6,18 +6,18 @@ ghost use mathlib.Core.Path.{_≡_};
 ghost use Prim.Native.Nat.{_+_, _<_, _≤_};
 ghost use lib.ListN.{length};
 ghost use Rattle.circuit.specs.declared.Ending.the-variants.{Found};
-ghost use Rattle.map.specs.Map.{gateCount};
+ghost use Rattle.map.specs.Map.{mostGates, gateCount};
 ghost use Rattle.map.specs.Check.{Shaped};
 ghost use Rattle.line.specs.Text.{Wrote};
 ghost use Rattle.line.specs.Line.{lineRoom, inputText, rowText, countsText, foundLine, spentLine, refusedLine, report};
 
 // The digit of gate g's value, if it is an input.
-fn put_input(map: &[u8], gates: usize, g: usize, answer: &[u8], out: &mut [u8], at: usize) -> usize
-    requires { ⌜ Shaped (now map) × ((gates ≡ gateCount (now map)) × ((g < gates) × (gates ≤ length (now answer)))) ⌝ }
+fn put_input(map: &[u8], g: usize, answer: &[u8], out: &mut [u8], at: usize) -> usize
+    requires { ⌜ Shaped (now map) × ((g < gateCount (now map)) × (g < length (now answer))) ⌝ }
     requires { ⌜ at < length (now out) ⌝ }
     ensures { λ r. ⌜ Wrote at (inputText (now (map .entry)) (now (answer .entry)) g) (now (out .entry)) (now (out .exit)) r × (r ≤ at + 1) ⌝ }
 {
-    if decode::kind(map, gates, g) == 0 {
+    if decode::kind(map, g) == 0 {
         return text::put(text::value_digit(answer[g]), out, at);
     }
     at
@@ -32,7 +32,7 @@ fn put_row(map: &[u8], gates: usize, answer: &[u8], out: &mut [u8], at: usize) -
     let mut end = at;
     let mut g = 0;
     while g < gates {
-        end = put_input(map, gates, g, answer, out, end);
+        end = put_input(map, g, answer, out, end);
         g += 1;
     }
     end
@@ -52,12 +52,12 @@ fn put_counts(word: &[u8], moves: u16, flips: u32, out: &mut [u8]) -> usize
 
 // `FOUND moves flips row`
 fn put_found(map: &[u8], moves: u16, flips: u32, answer: &[u8], out: &mut [u8]) -> usize
-    requires { ⌜ Shaped (now map) × ((1024 ≤ length (now answer)) × (lineRoom ≤ length (now out))) ⌝ }
+    requires { ⌜ Shaped (now map) × ((mostGates ≤ length (now answer)) × (lineRoom ≤ length (now out))) ⌝ }
     ensures { λ r. ⌜ Wrote 0 (foundLine moves flips (now (map .entry)) (now (answer .entry))) (now (out .entry)) (now (out .exit)) r × (r ≤ lineRoom) ⌝ }
 {
-    let gates = decode::word(map, 2);
+    let n = decode::read_contents(map);
     let a = put_counts(b"FOUND ", moves, flips, out);
-    let b = put_row(map, gates, answer, out, a);
+    let b = put_row(map, n.gates, answer, out, a);
     text::put(b'\n', out, b)
 }
 
@@ -90,7 +90,7 @@ pub fn put_report(
     answer: &[u8],
     out: &mut [u8],
 ) -> usize
-    requires { ⌜ (ending ≡ Found → Shaped (now map)) × ((1024 ≤ length (now answer)) × (lineRoom ≤ length (now out))) ⌝ }
+    requires { ⌜ (ending ≡ Found → Shaped (now map)) × ((mostGates ≤ length (now answer)) × (lineRoom ≤ length (now out))) ⌝ }
     ensures { λ r. ⌜ Wrote 0 (report ending moves flips (now (map .entry)) (now (answer .entry))) (now (out .entry)) (now (out .exit)) r × (r ≤ lineRoom) ⌝ }
 {
     match ending {

@@ -192,7 +192,12 @@ fn free_ok(map: &[u8], n: Contents) -> bool
     ensures { λ r. ⌜ r ≡ allBelow (gateCount (now (map .entry))) (freeTest (now (map .entry))) ⌝ }
 {
     let mut marks = [0u8; MOST_GATES];
-    decode::mark_codes(map, decode::child_place(n.gates, n.children), n.codes, &mut marks);
+    decode::mark_codes(
+        map,
+        decode::child_place(n.gates, n.children),
+        n.codes,
+        &mut marks,
+    );
     all_free(map, n, &marks)
 }
 

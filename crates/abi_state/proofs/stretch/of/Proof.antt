@@ -1,9 +1,7 @@
 use mathlib.Core.Path.{sym, ap, _∙_}
 use Rattle.map.specs.Check.{says}
-use Rattle.map.proofs.Answers.{was-accepted, was-refused}
+use Rattle.map.proofs.Answers.{accepted-by, was-refused}
 use Rattle.abi_state.proofs.Stretches.{no-map}
-use Rattle.map.specs.declared.Counts.{Counts}
-use Rattle.map.specs.Check.{countsOf}
 use borrow.Author.Needs.{needs}
 use Rattle.abi_state.proofs.stretch.of.Statement.{statement}
 use Rattle.abi_state.proofs.stretch.of.Tie as tie
@@ -13,15 +11,13 @@ use Rattle.abi_state.proofs.stretch.within.Reads as within-reads
 use Rattle.map.proofs.check.Reads as check-reads
 
 within-requires : tie.Need-within-requires
-unfolding countsOf
 within-requires c κs =
-    let n : tie.After-c = search in
+    let n : tie.After-counts = search in
     let h : tie.After-check = search in
-    let t = was-accepted _ _ (ap says (sym (n .c .given .1)) ∙ h .check .ensures) in
-    (t .0, ap (λ (n : Counts). n .gates) (t .1))
+    let t = accepted-by _ _ _ (h .check .ensures) (n .counts .given .1) in
+    (t .passed, t .counted)
 
 returns : tie.Need-returns
-unfolding countsOf
 returns c =
     let h : tie.After-check = search in
     no-map _ _ (was-refused _ _ (ap says (sym (c .enum-told .given .1)) ∙ h .check .ensures) .1)

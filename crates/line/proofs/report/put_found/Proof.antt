@@ -8,7 +8,7 @@ use Rattle.line.proofs.report.put_found.Lts as lts
 use Rattle.line.proofs.report.put_counts.Reads as put-counts-reads
 use Rattle.line.proofs.report.put_row.Reads as put-row-reads
 use Rattle.line.proofs.text.put.Reads as put-reads
-use Rattle.map.proofs.decode.word.Reads as word-reads
+use Rattle.map.proofs.decode.read_contents.Reads as read-contents-reads
 
 returns : tie.Need-returns
 returns c =

@@ -27,7 +27,7 @@ loop-holds c = (omega arith, (rw (row-none _ _) (wrote-nothing _ _), (omega arit
 put-input-requires : tie.Need-put-input-requires Inv-loop μ-loop
 put-input-requires c κs =
     let s : tie.Start Inv-loop μ-loop = search in
-    ((s .pre .0 .0, (s .pre .0 .1 .0, (omega arith, s .pre .0 .1 .1))), omega arith)
+    ((s .pre .0 .0, (omega arith, omega arith)), omega arith)
 
 loop-again : tie.Need-loop-again Inv-loop μ-loop
 loop-again c =
