@@ -6,7 +6,7 @@ use Rattle.search.specs.Move.{moveTests, Moving, movingBy, moving}
 use Rattle.map.specs.Map.{circuit}
 use Rattle.tape.specs.Tape.{entries}
 use Rattle.search.specs.Run.{runTests, Told, Running, runningBy, running}
-use Rattle.search.proofs.RunMeaning.{run-ends}
+use Rattle.search.proofs.Endings.{run-ends}
 use Rattle.abi_state.proofs.Zero.{zero-of}
 use Rattle.abi_search.specs.Numbers.{ZeroIsAccepted}
 

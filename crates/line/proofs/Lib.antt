@@ -1,5 +1,4 @@
 pub mod Writing
 pub mod Rows
 pub mod Lines
-pub mod Meaning
 pub mod Bench

@@ -13,14 +13,14 @@ use Rattle.map.specs.Map.{u16At}
 use Rattle.map.specs.Check.{Shaped}
 use Rattle.map.proofs.Accepted.{facts}
 use Rattle.search.specs.Run.{running}
-use Rattle.search.proofs.RunMeaning.{found-accepted, run-accepts}
+use Rattle.search.proofs.Endings.{found-passes}
 use Rattle.line.specs.Text.{Wrote}
 use Rattle.line.specs.Line.{tapeAt, mapPart, configurationPart, tapePart, inputTest, lent, refusedLine, runLine, lineOf, inputOf, lineRoom, Printing, printed, printing}
 use Rattle.line.proofs.Writing.{wrote-over}
 
 -- what Found tells of the map
 pub found-shaped : (m s tape work ans : List ℕ) → running m s tape work ans .outcome .ending ≡ Found → Shaped m
-found-shaped m s tape work ans f = facts m (run-accepts m s tape work ans .0 (found-accepted m s tape work ans f) .accepted) .sound .placed .shaped
+found-shaped m s tape work ans f = facts m (found-passes m s tape work ans f) .sound .placed .shaped
 
 -- what a whole input is
 pub record Whole (x : List ℕ) : Type 0 where

@@ -44,7 +44,7 @@ unfoldable pub inputTest : List ℕ → Bool
 inputTest x = leb (length x) mostInput and eqb (length x) (tapeAt x + u16At x 4)
 
 -- the work and the answer memory that the program lends Run: 1,024 bytes each, enough for every map, all 0; any others that
--- number 14 lets through would do (`SameForAllMemories` in search/specs/Demands.antt, and `SameLineForAllMemories` below)
+-- number 14 lets through would do (`SameForAllMemories` in demands/specs/Demands.antt, and `SameLineForAllMemories` below)
 unfoldable pub lent : List ℕ
 lent = replicate mostGates 0
 

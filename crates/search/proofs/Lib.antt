@@ -4,10 +4,7 @@ pub mod Best
 pub mod Choices
 pub mod Fronts
 pub mod Answers
-pub mod Meaning
 pub mod Bench
 pub mod Passed
 pub mod Runs
-pub mod Tapes
-pub mod RunMeaning
-pub mod Demands
+pub mod Endings

@@ -21,11 +21,11 @@ use Rattle.map.specs.Check.{Shaped, verdict}
 use Rattle.map.proofs.Accepted.{facts}
 use Rattle.map.proofs.Answers.{behind-declined}
 use Rattle.search.specs.Run.{runTests, runningBy, running, Room}
-use Rattle.search.proofs.Demands.{same-for-all-memories}
+use Rattle.demands.proofs.Demands.{same-for-all-memories}
 use Rattle.line.specs.Text.{decimalIn, readOn, readDecimal, DecimalReads}
 use Rattle.line.specs.Line.{tapeAt, mapPart, configurationPart, tapePart, inputTest, lent, rowText, report, runLine, lineOf, inputOf, ExactInput, SameLineForAllMemories, TooLong, NotExact, CutInput, lineRoom, LineFits}
 use Rattle.line.proofs.Rows.{same-row}
 use Rattle.line.proofs.Lines.{found-shaped, line-refused, line-runs, map-part, configuration-part, tape-part, parts-whole}
 
 -- ---- inputs that the program runs, and inputs that it refuses itself
 

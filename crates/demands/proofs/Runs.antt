@@ -1,21 +1,25 @@
--- Which calls Run accepts, and what a declined one gives. Assumes nothing.
-use Prim.Native.Nat.{ℕ, _%_, _≤_}
+-- Which calls Run accepts, what a declined one gives, and how far a run may go. Assumes nothing.
+use Prim.Native.Nat.{ℕ, _*_, _%_, _≤_}
 use mathlib.Core.Path.{_≡_, refl, sym, ap, _∙_}
 use mathlib.Core.Bool.{Bool, true, false≢true, true≢false}
 use mathlib.Core.Logic.{inl, inr}
 use mathlib.Core.List.{List, [], _∷_, _++_}
+use native.Mathlib.Omega.{arith}
 use lib.Dec.{eqb, leb}
 use lib.ListN.{length}
 use borrow.Author.Tests.{eqb-true, eqb-false, eq-eqb, leb-true, le-leb}
 use Rattle.folds.specs.Folds.{_and_}
 use Rattle.folds.proofs.Tests.{which, and-left, and-right, and-both}
 use Rattle.circuit.specs.declared.Entry.{Entry}
-use Rattle.circuit.specs.Tools.{isEmpty}
-use Rattle.circuit.specs.Circuit.{Circuit}
+use Rattle.circuit.specs.Tools.{upTo, isEmpty}
+use Rattle.circuit.specs.Circuit.{Circuit, WellFormed}
+use Rattle.circuit.specs.Evaluate.{KeepsCodes}
 use Rattle.circuit.specs.declared.Ending.{Ending}
 use Rattle.circuit.specs.declared.Ending.the-variants.{Found}
-use Rattle.circuit.specs.Survey.{front, frontSize}
-use Rattle.circuit.specs.Run.{move, Ended, stop, run}
+use Rattle.circuit.specs.Survey.{inFront, front, frontSize}
+use Rattle.circuit.specs.Run.{move, run}
+use Rattle.circuit.proofs.Lists.{select-length, length-upTo}
+use Rattle.circuit.proofs.Moves.{entry-done}
 use Rattle.circuit.proofs.Trace.{run-found, run-spent, run-step}
 use Rattle.map.specs.Map.{gateCount, circuit}
 use Rattle.map.specs.Check.{firstFailed, mapTests}
@@ -27,30 +31,9 @@ use Rattle.state.proofs.Meaning.{behind}
 use Rattle.survey.specs.Survey.{startTests}
 use Rattle.survey.proofs.Starts.{behind-start, start-of, of-start, start-number}
 use Rattle.tape.specs.Tape.{entries, tapeTest}
 use Rattle.search.specs.Run.{tapeTests, runTests, Told, told, ran, runningBy, running, Room, Runnable, RunAccepts, RunNumber, RunDeclines}
-use Rattle.search.proofs.Tapes.{kinds-of, of-kinds}
-
--- how a run on a circuit ends: it is never refused, it found where the last configuration has no front, and the front that its ending carries is that one's
-abbrev pub Ends : Circuit → Ended → Type 0
-Ends c r = told (r .outcome .ending) ≡ record { accepted = true; found = isEmpty (front c (r .last)); number = 0; front = frontSize c (r .last) }
-
-ends-found : (c : Circuit) (s : List ℕ) → isEmpty (front c s) ≡ true → Ends c (stop Found s)
-unfolding frontSize
-ends-found c s q = rw (q, none-of (front c s) q)
-  where
-    none-of : (xs : List ℕ) → isEmpty xs ≡ true → length xs ≡ 0
-    none-of [] e = refl
-    none-of (x ∷ xs) e = absurd (false≢true e)
-
-pub run-ends : (c : Circuit) (s : List ℕ) (es : List Entry) → Ends c (run c s es)
-run-ends c s [] = elim (which (isEmpty (front c s))) [
-  | inl q ↦ rw (run-found c s [] q) (ends-found c s q)
-  | inr q ↦ rw (run-spent c s q, q)
-]
-run-ends c s (e ∷ es) = elim (which (isEmpty (front c s))) [
-  | inl q ↦ rw (run-found c s (e ∷ es) q) (ends-found c s q)
-  | inr q ↦ rw (run-step c s e es q) (run-ends c (move c s e .next) es)
-]
+use Rattle.search.proofs.Endings.{run-ends}
+use Rattle.demands.proofs.Tapes.{kinds-of, of-kinds}
 
 -- test 12
 length-of : (tape : List ℕ) → eqb (length tape % 4) 0 and leb (length tape) 65532 ≡ true → (length tape % 4 ≡ 0) × (length tape ≤ 65532)
@@ -153,3 +136,22 @@ run-declines m s tape work ans e = elim (which (eqb (number m s tape work ans) 0
   | inl q ↦ absurd (true≢false (sym (accepted m s tape work ans (eqb-true (number m s tape work ans) 0 q)) ∙ e))
   | inr q ↦ rw q (record { ending = refl; numbered = eqb-false (number m s tape work ans) 0 q; zeros = (refl, (refl, refl)); untouched = (refl, (refl, refl)) })
 ]
+
+-- ---- how far a run may go
+
+pub run-few : (c : Circuit) → WellFormed c → (s : List ℕ) → KeepsCodes c s → (es : List Entry)
+    → (run c s es .outcome .moves ≤ length es) × (run c s es .outcome .flips ≤ 8 * run c s es .outcome .moves)
+run-few c ok s k [] = elim (which (isEmpty (front c s))) [
+  | inl q ↦ rw (run-found c s [] q) (omega arith, omega arith)
+  | inr q ↦ rw (run-spent c s q) (omega arith, omega arith)
+]
+run-few c ok s k (e ∷ es) = elim (which (isEmpty (front c s))) [
+  | inl q ↦ rw (run-found c s (e ∷ es) q) (omega arith, omega arith)
+  | inr q ↦ (let d = entry-done c ok s k q e in
+      let (i, j) = run-few c ok (move c s e .next) (d .keeps) es in
+      rw (run-step c s e es q) (omega (arith, i), omega (arith, j, d .few)))
+]
+
+pub front-few : (c : Circuit) (s : List ℕ) → frontSize c s ≤ c .gates
+unfolding frontSize front
+front-few c s = omega (arith, select-length (inFront c s) (upTo (c .gates)), length-upTo (c .gates))

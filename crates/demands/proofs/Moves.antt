@@ -28,8 +28,8 @@ use Rattle.state.proofs.Meaning.{behind}
 use Rattle.survey.specs.Survey.{startTests}
 use Rattle.survey.proofs.Starts.{behind-start, start-of, of-start, start-number}
 use Rattle.tape.specs.Tape.{entryAt, kindsTest}
 use Rattle.search.specs.Move.{frontTest, entryTests, moveTests, movingBy, moving, MoveWrites, Movable, MoveAccepts, MoveNumber, MoveDeclines}
-use Rattle.search.proofs.Tapes.{entry-read}
+use Rattle.demands.proofs.Tapes.{entry-read}
 
 -- test 15
 module _ (m s : List ℕ) (k : IsMap m) where

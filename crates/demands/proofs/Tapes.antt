@@ -17,7 +17,7 @@ use Rattle.circuit.specs.declared.Entry.{Entry}
 use Rattle.circuit.specs.Promise.{NotGreedy, optionByte}
 use Rattle.map.specs.Map.{u16At}
 use Rattle.tape.specs.Tape.{choiceOf, entryAt, Says, EntryRead, entriesFrom, entries, kindsTest}
-use Rattle.search.specs.Demands.{AreBytes, AreDraws, Way, Plain, tapeOf}
+use Rattle.demands.specs.Demands.{AreBytes, AreDraws, Way, Plain, tapeOf}
 
 -- ---- reading
 

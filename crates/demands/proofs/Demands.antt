@@ -35,12 +35,13 @@ use Rattle.state.proofs.Over.{over-first, over-rest, over-long}
 use Rattle.state.proofs.Meaning.{evaluate-writes, evaluate-accepts, evaluate-number, evaluate-declines, mark-says, mark-accepts, mark-number, mark-declines}
 use Rattle.survey.proofs.Meaning.{survey-writes, survey-accepts, survey-number, survey-declines}
 use Rattle.tape.specs.Tape.{entries}
 use Rattle.search.specs.Run.{tapeTests, runTests, Told, told, answered, ran, runningBy, running, Room, Runnable}
-use Rattle.search.specs.Demands.{Satisfies, FoundWrites, RunMeans, Demand1, Demand2, SameRun, SameForAllMemories, AreDraws, Way, Plain, tapeOf, Finishing, Demand3}
-use Rattle.search.proofs.Meaning.{move-writes, move-accepts, move-number, move-declines}
-use Rattle.search.proofs.Runs.{run-few, front-few, survey-length, answer-length}
-use Rattle.search.proofs.RunMeaning.{run-ends, of-room, none, written, runnable, of-runnable, found-accepted, run-accepts, run-number, run-declines}
-use Rattle.search.proofs.Tapes.{entries-length, entry-is, entry-read, waysOf, ways-length, ways-plain, entries-back, tape-length, tape-kinds, tape-bytes}
+use Rattle.search.proofs.Runs.{survey-length, answer-length}
+use Rattle.search.proofs.Endings.{run-ends}
+use Rattle.demands.specs.Demands.{Satisfies, FoundWrites, RunMeans, Demand1, Demand2, SameRun, SameForAllMemories, AreDraws, Way, Plain, tapeOf, Finishing, Demand3}
+use Rattle.demands.proofs.Moves.{move-writes, move-accepts, move-number, move-declines}
+use Rattle.demands.proofs.Runs.{of-room, none, written, runnable, of-runnable, found-accepted, run-accepts, run-number, run-declines, run-few, front-few}
+use Rattle.demands.proofs.Tapes.{entries-length, entry-is, entry-read, waysOf, ways-length, ways-plain, entries-back, tape-length, tape-kinds, tape-bytes}
 
 -- ---- demand 1
 

@@ -1,0 +1,6 @@
+pub mod Tapes
+pub mod Moves
+pub mod Runs
+pub mod Demands
+pub mod Lines
+pub mod Table

@@ -1,0 +1,51 @@
+-- How a run ends, and what Found tells of the map. Assumes nothing.
+use Prim.Native.Nat.{ℕ}
+use mathlib.Core.Path.{_≡_, refl, ap}
+use mathlib.Core.Bool.{true, false≢true}
+use mathlib.Core.Logic.{inl, inr}
+use mathlib.Core.List.{List, [], _∷_, _++_}
+use lib.Dec.{eqb}
+use lib.ListN.{length}
+use borrow.Author.Tests.{eqb-true}
+use Rattle.folds.proofs.Tests.{which}
+use Rattle.circuit.specs.declared.Ending.{Ending}
+use Rattle.circuit.specs.declared.Ending.the-variants.{Found}
+use Rattle.circuit.specs.declared.Entry.{Entry}
+use Rattle.circuit.specs.Tools.{isEmpty}
+use Rattle.circuit.specs.Circuit.{Circuit}
+use Rattle.circuit.specs.Survey.{front, frontSize}
+use Rattle.circuit.specs.Run.{move, Ended, stop, run}
+use Rattle.circuit.proofs.Trace.{run-found, run-spent, run-step}
+use Rattle.map.specs.Check.{firstFailed, mapTests, verdict}
+use Rattle.map.proofs.Laws.{passed-before}
+use Rattle.search.specs.Run.{runTests, told, runningBy, running}
+
+-- how a run on a circuit ends: it is never refused, it found where the last configuration has no front, and the front that its ending carries is that one's
+abbrev pub Ends : Circuit → Ended → Type 0
+Ends c r = told (r .outcome .ending) ≡ record { accepted = true; found = isEmpty (front c (r .last)); number = 0; front = frontSize c (r .last) }
+
+ends-found : (c : Circuit) (s : List ℕ) → isEmpty (front c s) ≡ true → Ends c (stop Found s)
+unfolding frontSize
+ends-found c s q = rw (q, none-of (front c s) q)
+  where
+    none-of : (xs : List ℕ) → isEmpty xs ≡ true → length xs ≡ 0
+    none-of [] e = refl
+    none-of (x ∷ xs) e = absurd (false≢true e)
+
+pub run-ends : (c : Circuit) (s : List ℕ) (es : List Entry) → Ends c (run c s es)
+run-ends c s [] = elim (which (isEmpty (front c s))) [
+  | inl q ↦ rw (run-found c s [] q) (ends-found c s q)
+  | inr q ↦ rw (run-spent c s q, q)
+]
+run-ends c s (e ∷ es) = elim (which (isEmpty (front c s))) [
+  | inl q ↦ rw (run-found c s (e ∷ es) q) (ends-found c s q)
+  | inr q ↦ rw (run-step c s e es q) (run-ends c (move c s e .next) es)
+]
+
+-- a run that found was on an accepted map
+pub found-passes : (m s tape work ans : List ℕ) → running m s tape work ans .outcome .ending ≡ Found → verdict m ≡ 0
+unfolding running runningBy verdict
+found-passes m s tape work ans f = elim (which (eqb (firstFailed (mapTests m ++ runTests m s tape work ans)) 0)) [
+  | inl q ↦ passed-before (mapTests m) (runTests m s tape work ans) (eqb-true _ 0 q)
+  | inr q ↦ absurd (false≢true (ap (λ (e : Ending). told e .accepted) (rw q at f)))
+]
