@@ -20,7 +20,7 @@ returns-2 : tie.Need-returns-2
 returns-2 c = rw (c .if2 .taken)
 
 returns-3 : tie.Need-returns-3
-returns-3 c = up (c .before .before .args .kind) (c .before .before .args .option) (c .before .if1 .left) (c .if2 .left)
+returns-3 c = up _ _ (c .before .if1 .left) (c .if2 .left)
 
 pub choice-of-spec : {M : Type 1} → statement M
 choice-of-spec = tie.close (tie.spec returns returns-2 returns-3)

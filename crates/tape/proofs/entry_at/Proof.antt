@@ -9,7 +9,9 @@ use Rattle.tape.proofs.choice_of.Reads as choice-of-reads
 
 returns : tie.Need-returns
 unfolding entryAt
-returns c = rw (c .before .before .before .word .ensures .0, c .choice-of .ensures)
+returns c =
+    let w : tie.After-word = search in
+    rw (w .word .ensures .0, c .choice-of .ensures)
 
 pub entry-at-spec : {M : Type 1} → statement M
 entry-at-spec =

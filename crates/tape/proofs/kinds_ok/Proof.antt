@@ -29,18 +29,27 @@ loop-holds : tie.Need-loop-holds Inv-loop μ-loop
 loop-holds c = search (needs, loops-of)
 
 shared-slice-read-if1 : tie.Need-shared-slice-read-if1 Inv-loop μ-loop
-shared-slice-read-if1 c = let l = c .before .before .loop in let t = c .before .before .before .args .tape .now in omega (arith, four-each (length t) (l .i) (omega arith))
+shared-slice-read-if1 c =
+    let l : tie.At-loop Inv-loop μ-loop = search in
+    let s : tie.Start Inv-loop μ-loop = search in
+    omega (arith, four-each (length (now (s .args .tape))) (l .loop .i) (omega arith))
 
 returns : tie.Need-returns Inv-loop μ-loop
 unfolding kindsTest
-returns c = let l = c .before .before .before .loop in sym (all-fails _ _ (l .i) (omega arith) (lt-leb _ _ (c .if1 .taken)))
+returns c =
+    let l : tie.At-loop Inv-loop μ-loop = search in
+    sym (all-fails _ _ (l .loop .i) (omega arith) (lt-leb _ _ (c .if1 .taken)))
 
 loop-again : tie.Need-loop-again Inv-loop μ-loop
-loop-again c = let l = c .before .before .before .loop in (search needs, all-more _ (l .i) (l .inv .1) (le-leb _ _ (c .if1 .left)))
+loop-again c =
+    let l : tie.At-loop Inv-loop μ-loop = search in
+    (search needs, all-more _ (l .loop .i) (l .loop .inv .1) (le-leb _ _ (c .if1 .left)))
 
 returns-2 : tie.Need-returns-2 Inv-loop μ-loop
 unfolding kindsTest
-returns-2 c = let l = c .before .loop in all-done _ (l .i) _ (l .inv .1) (omega (arith, l .inv .0)) (omega arith)
+returns-2 c =
+    let l : tie.At-loop Inv-loop μ-loop = search in
+    all-done _ (l .loop .i) _ (l .loop .inv .1) (omega (arith, l .loop .inv .0)) (omega arith)
 
 pub kinds-ok-spec : {M : Type 1} → statement M
 kinds-ok-spec =

@@ -13,15 +13,21 @@ use Rattle.tape.proofs.entry_at.Reads as entry-at-reads
 
 returns : tie.Need-returns
 unfolding stepAt
-returns c = simp (lt-leb (c .before .before .args .at + 4) (length (c .before .before .args .tape .now)) (omega arith))
+returns c =
+    let s : tie.Start = search in
+    simp (lt-leb (s .args .at + 4) (length (now (s .args .tape))) (omega arith))
 
 returns-2 : tie.Need-returns-2
 unfolding stepAt
-returns-2 c = simp (lt-leb (c .before .before .before .args .at + 4) (length (c .before .before .before .args .tape .now)) (omega arith))
+returns-2 c =
+    let s : tie.Start = search in
+    simp (lt-leb (s .args .at + 4) (length (now (s .args .tape))) (omega arith))
 
 returns-3 : tie.Need-returns-3
 unfolding stepAt
-returns-3 c = simp (le-leb (c .before .before .before .before .args .at + 4) (length (c .before .before .before .before .args .tape .now)) (omega arith), c .entry-at .ensures)
+returns-3 c =
+    let s : tie.Start = search in
+    simp (le-leb (s .args .at + 4) (length (now (s .args .tape))) (omega arith), c .entry-at .ensures)
 
 pub step-at-spec : {M : Type 1} → statement M
 step-at-spec = tie.close (tie.spec returns (λ c. search needs) returns-2 (λ c κs. search needs) (λ c. search needs) returns-3)

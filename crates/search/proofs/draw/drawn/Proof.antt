@@ -25,21 +25,23 @@ loop-holds c = (search needs, omega arith)
 
 returns : tie.Need-returns Inv-loop μ-loop
 unfolding frontBy
-returns c = let l = c .before .before .before .before .loop in
-    let s = c .before .before .before .before .before .before in
-    (found-at (λ x. eqb (getD (now (s .args .marks)) x 0) 3) (length (now (s .args .marks))) (l .g) (s .args .k) (l .left) _ (l .inv .1) (c .before .front-bit .ensures .0) (c .if1 .taken) (omega arith), omega arith)
+returns c =
+    let l : tie.At-loop Inv-loop μ-loop = search in
+    let s : tie.Start Inv-loop μ-loop = search in
+    (found-at _ (length (now (s .args .marks))) (l .loop .g) _ (l .loop .left) _ (l .loop .inv .1) (c .before .front-bit .ensures .0) (c .if1 .taken) (omega arith), omega arith)
 
 loop-again : tie.Need-loop-again Inv-loop μ-loop
-loop-again c = let l = c .before .before .before .before .loop in
-    let s = c .before .before .before .before .before .before in
-    (omega arith, passed-at (λ x. eqb (getD (now (s .args .marks)) x 0) 3) (l .g) (s .args .k) (l .left) _ (l .inv .1) (c .before .front-bit .ensures .0) (c .if1 .left) _ (omega arith))
+loop-again c =
+    let l : tie.At-loop Inv-loop μ-loop = search in
+    (omega arith, passed-at _ (l .loop .g) _ (l .loop .left) _ (l .loop .inv .1) (c .before .front-bit .ensures .0) (c .if1 .left) _ (omega arith))
 
 returns-2 : tie.Need-returns-2 Inv-loop μ-loop
 unfolding frontBy
-returns-2 c = let l = c .before .loop in
-    let s = c .before .before .before in
-    let e : l .g ≡ length (now (s .args .marks)) = omega arith in
-    absurd (none-left (λ x. eqb (getD (now (s .args .marks)) x 0) 3) (length (now (s .args .marks))) (s .args .k) (l .left) (rw e at (l .inv .1)) (s .pre))
+returns-2 c =
+    let l : tie.At-loop Inv-loop μ-loop = search in
+    let s : tie.Start Inv-loop μ-loop = search in
+    let e : l .loop .g ≡ length (now (s .args .marks)) = omega arith in
+    absurd (none-left (λ x. eqb (getD (now (s .args .marks)) x 0) 3) (length (now (s .args .marks))) _ _ (rw e at (l .loop .inv .1)) (s .pre))
 
 pub drawn-spec : {M : Type 1} → statement M
 drawn-spec =

@@ -21,8 +21,10 @@ loop-holds : tie.Need-loop-holds Inv-loop μ-loop
 loop-holds c = (search needs, (refl, refl))
 
 loop-again : tie.Need-loop-again Inv-loop μ-loop
-loop-again c = let l = c .before .before .loop in
-    let s = c .before .before .before in (
+loop-again c =
+    let a : tie.At-loop Inv-loop μ-loop = search in
+    let s : tie.Start Inv-loop μ-loop = search in
+    let l = a .loop in (
       omega arith,
       (
         ap (λ (x : List ℕ). set x (l .i) (getD (now (s .args .s)) (l .i) 0)) (l .inv .1 .0) ∙ copy-more (now (s .args .s)) (now (s .args .trial)) (l .i) (omega arith) (omega arith),
@@ -31,8 +33,10 @@ loop-again c = let l = c .before .before .loop in
     )
 
 returns : tie.Need-returns Inv-loop μ-loop
-returns c = let l = c .before .loop in
-    let s = c .before .before in
+returns c =
+    let a : tie.At-loop Inv-loop μ-loop = search in
+    let s : tie.Start Inv-loop μ-loop = search in
+    let l = a .loop in
     let e : l .i ≡ length (now (s .args .s)) = omega arith in
     let f : l .i ≡ length (now (s .args .trial)) = omega arith in
     l .inv .1 .0 ∙ rw (drop-all (now (s .args .trial)) (l .i) f, take-whole (now (s .args .s)) (l .i) e) (append-nil _)

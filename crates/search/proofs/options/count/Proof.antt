@@ -10,7 +10,10 @@ use Rattle.kinds.proofs.options.Reads as options-reads
 
 returns : tie.Need-returns
 unfolding optionsOf
-returns c = rw (← c .before .before .fan-in .ensures .0, ← c .before .before .before .kind .ensures) (c .options .ensures)
+returns c =
+    let f : tie.After-fan-in = search in
+    let k : tie.After-kind = search in
+    rw (← f .fan-in .ensures .0, ← k .kind .ensures) (c .options .ensures)
 
 pub count-spec : {M : Type 1} → statement M
 count-spec =

@@ -10,7 +10,9 @@ use Rattle.search.proofs.options.flip.Lts as lts
 use Rattle.search.proofs.options.other.Reads as other-reads
 
 returns : tie.Need-returns
-returns c = let s = c .before .before .before in ap (λ (v : ℕ). set (now (s .args .s)) (s .args .x) v) (c .other .ensures .0)
+returns c =
+    let s : tie.Start = search in
+    ap (λ (v : ℕ). set (now (s .args .s)) (s .args .x) v) (c .other .ensures .0)
 
 pub flip-spec : {M : Type 1} → statement M
 flip-spec = tie.close (tie.spec (λ c. search needs) (λ c κs. search needs) (λ c. search needs) (λ c. search needs) returns)

@@ -15,12 +15,14 @@ rem-place : tie.Need-rem-place
 rem-place c = omega (arith, some-least _ _ _ (c .before .least .ensures), c .ties .ensures)
 
 place-requires : tie.Need-place-requires
-place-requires c κs = let h = some-least _ _ _ (c .before .least .ensures) in
-    let e = c .ties .ensures in
-    (c .before .before .before .pre .1, omega (arith, e, mod-lt (c .before .before .before .args .i) {m = c .ties .result} (omega arith)))
+place-requires c κs =
+    let s : tie.Start = search in
+    (s .pre .1, omega (arith, c .ties .ensures, mod-lt (s .args .i) (rem-place c)))
 
 returns : tie.Need-returns
-returns c = (c .place .ensures .0 ∙ rw (c .before .ties .ensures) (sym (best-is _ _ _ (c .before .before .least .ensures) _)), c .place .ensures .1)
+returns c =
+    let l : tie.After-least = search in
+    (c .place .ensures .0 ∙ rw (c .before .ties .ensures) (sym (best-is _ _ _ (l .least .ensures) _)), c .place .ensures .1)
 
 pub best-spec : {M : Type 1} → statement M
 best-spec = tie.close (tie.spec (λ c κs. search needs) (λ c κs. search needs) rem-place place-requires returns)

@@ -20,10 +20,17 @@ loop-holds : tie.Need-loop-holds Inv-loop μ-loop
 loop-holds c = (omega arith, (omega arith, least-one _))
 
 loop-again : tie.Need-loop-again Inv-loop μ-loop
-loop-again c = let l = c .before .before .before .loop in let e = c .smaller .ensures in (omega arith, (omega arith, least-more _ (l .j) (l .low) _ (l .inv .1 .1) (e .0) (e .1 .0) (e .1 .1)))
+loop-again c =
+    let l : tie.At-loop Inv-loop μ-loop = search in
+    let e = c .smaller .ensures in
+    (omega arith, (omega arith, least-more _ (l .loop .j) (l .loop .low) _ (l .loop .inv .1 .1) (e .0) (e .1 .0) (e .1 .1)))
 
 returns : tie.Need-returns Inv-loop μ-loop
-returns c = let l = c .before .loop in let e : l .j ≡ c .before .before .before .before .args .n = omega arith in rw e at (l .inv .1 .1)
+returns c =
+    let l : tie.At-loop Inv-loop μ-loop = search in
+    let s : tie.Start Inv-loop μ-loop = search in
+    let e : l .loop .j ≡ s .args .n = omega arith in
+    rw e at (l .loop .inv .1 .1)
 
 pub least-spec : {M : Type 1} → statement M
 least-spec =

@@ -25,21 +25,23 @@ loop-holds c = (search needs, omega arith)
 
 returns : tie.Need-returns Inv-loop μ-loop
 unfolding equalTo
-returns c = let l = c .before .before .before .before .loop in
-    let s = c .before .before .before .before .before .before in
-    (found-at (λ x. eqb (getD (now (s .args .weights)) x 0) (s .args .w)) (s .args .n) (l .j) (s .args .k) (l .left) _ (l .inv .1) (c .before .equal-bit .ensures .0) (c .if1 .taken) (omega arith), omega arith)
+returns c =
+    let l : tie.At-loop Inv-loop μ-loop = search in
+    let s : tie.Start Inv-loop μ-loop = search in
+    (found-at _ (s .args .n) (l .loop .j) _ (l .loop .left) _ (l .loop .inv .1) (c .before .equal-bit .ensures .0) (c .if1 .taken) (omega arith), omega arith)
 
 loop-again : tie.Need-loop-again Inv-loop μ-loop
-loop-again c = let l = c .before .before .before .before .loop in
-    let s = c .before .before .before .before .before .before in
-    (omega arith, passed-at (λ x. eqb (getD (now (s .args .weights)) x 0) (s .args .w)) (l .j) (s .args .k) (l .left) _ (l .inv .1) (c .before .equal-bit .ensures .0) (c .if1 .left) _ (omega arith))
+loop-again c =
+    let l : tie.At-loop Inv-loop μ-loop = search in
+    (omega arith, passed-at _ (l .loop .j) _ (l .loop .left) _ (l .loop .inv .1) (c .before .equal-bit .ensures .0) (c .if1 .left) _ (omega arith))
 
 returns-2 : tie.Need-returns-2 Inv-loop μ-loop
 unfolding equalTo
-returns-2 c = let l = c .before .loop in
-    let s = c .before .before .before in
-    let e : l .j ≡ s .args .n = omega arith in
-    absurd (none-left (λ x. eqb (getD (now (s .args .weights)) x 0) (s .args .w)) (s .args .n) (s .args .k) (l .left) (rw e at (l .inv .1)) (s .pre .1))
+returns-2 c =
+    let l : tie.At-loop Inv-loop μ-loop = search in
+    let s : tie.Start Inv-loop μ-loop = search in
+    let e : l .loop .j ≡ s .args .n = omega arith in
+    absurd (none-left (λ x. eqb (getD (now (s .args .weights)) x 0) (s .args .w)) (s .args .n) _ _ (rw e at (l .loop .inv .1)) (s .pre .1))
 
 pub place-spec : {M : Type 1} → statement M
 place-spec =

@@ -24,14 +24,17 @@ loop-holds : tie.Need-loop-holds Inv-loop μ-loop
 loop-holds c = (search needs, (refl, search needs))
 
 loop-again : tie.Need-loop-again Inv-loop μ-loop
-loop-again c = let l = c .before .before .before .loop in
-    (search needs, (rw (add-one (l .j), place-more _ (l .j), ← l .inv .1 .0) (cc), search needs))
+loop-again c =
+    let l : tie.At-loop Inv-loop μ-loop = search in
+    (search needs, (rw (add-one (l .loop .j), place-more _ (l .loop .j), ← l .loop .inv .1 .0) (cc), search needs))
 
 returns : tie.Need-returns Inv-loop μ-loop
 unfolding equalTo
-returns c = let l = c .before .loop in
-    let e : l .j ≡ c .before .before .before .args .n = omega arith in
-    rw (← e) (l .inv .1 .0)
+returns c =
+    let l : tie.At-loop Inv-loop μ-loop = search in
+    let s : tie.Start Inv-loop μ-loop = search in
+    let e : l .loop .j ≡ s .args .n = omega arith in
+    rw (← e) (l .loop .inv .1 .0)
 
 pub ties-spec : {M : Type 1} → statement M
 ties-spec =
