@@ -7,7 +7,7 @@ use Rattle.circuit.specs.Survey.{survey}
 use Rattle.circuit.specs.Run.{move}
 use Rattle.map.specs.Map.{circuit}
 use Rattle.state.specs.State.{over}
-use Rattle.search.specs.declared.Turn.{Turn}
+use Rattle.steps.specs.declared.Turn.{Turn}
 use Rattle.search.specs.declared.Moved.the-variants.{Done, Refused}
 use Rattle.tape.specs.Tape.{entryAt}
 use Rattle.search.specs.Move.{did, movingBy}

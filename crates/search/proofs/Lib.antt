@@ -1,8 +1,3 @@
-pub mod Places
-pub mod Flips
-pub mod Best
-pub mod Choices
-pub mod Fronts
 pub mod Answers
 pub mod Bench
 pub mod Passed

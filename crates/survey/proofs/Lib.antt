@@ -6,3 +6,4 @@ pub mod Starts
 pub mod Answers
 pub mod Meaning
 pub mod Bench
+pub mod Marked

@@ -1,0 +1,60 @@
+use denote.Ref.{now}
+use native.Mathlib.Omega.{arith}
+use Prim.Native.Nat.{ℕ, _-_, _≤_}
+use mathlib.Core.Path.{_≡_, refl, ap, _∙_}
+use mathlib.Core.List.{List, _++_}
+use lib.ListN.{length, set, drop, length-set}
+use Rattle.steps.specs.Options.{weightsOf, interestAfter}
+use Rattle.steps.proofs.Choices.{weights-none, weights-more}
+use borrow.Author.Needs.{needs}
+use Rattle.steps.proofs.greedy.weigh_all.Statement.{statement}
+use Rattle.steps.proofs.greedy.weigh_all.Tie as tie
+use Rattle.steps.proofs.greedy.weigh_all.Reads as reads
+use Rattle.steps.proofs.greedy.weigh_all.Lts as lts
+use Rattle.steps.proofs.greedy.weigh.Reads as weigh-reads
+
+abbrev Inv-loop : tie.InvT-loop
+Inv-loop map counts g n s trial₀ marks₀ sizes₀ i₀ trial marks sizes i = (i ≤ n) × ((sizes ≡ weightsOf (interestAfter map s) map s g i ++ drop i sizes₀) × ((length sizes ≡ length sizes₀) × ((length trial ≡ length trial₀) × (length marks ≡ length marks₀))))
+
+abbrev μ-loop : tie.MeasureT-loop
+μ-loop map counts g n s trial₀ marks₀ sizes₀ i₀ trial marks sizes i = n - i
+
+loop-holds : tie.Need-loop-holds Inv-loop μ-loop
+loop-holds c = (search needs, (weights-none _ _ _ _, (refl, (refl, refl))))
+
+loop-again : tie.Need-loop-again Inv-loop μ-loop
+loop-again c =
+    let s : tie.Start Inv-loop μ-loop = search in
+    let l : tie.At-loop Inv-loop μ-loop = search in
+    let w : tie.After-weigh Inv-loop μ-loop = search in (
+      omega arith,
+      (
+        ap (λ (x : List ℕ). set x (l .loop .i) (w .weigh .result)) (l .loop .inv .1 .0) ∙ weights-more (now (s .args .map)) (now (s .args .s)) (s .args .g) (now (s .args .sizes)) (l .loop .i) (w .weigh .result) (omega arith) (w .weigh .ensures),
+        (simp length-set (l .loop .inv .1 .1 .0), (omega (arith, w .weigh, l), omega (arith, w .weigh, l))),
+      ),
+    )
+
+returns : tie.Need-returns Inv-loop μ-loop
+returns c =
+    let s : tie.Start Inv-loop μ-loop = search in
+    let l : tie.At-loop Inv-loop μ-loop = search in
+    let e : l .loop .i ≡ s .args .n = omega arith in
+    rw (← e) (l .loop .inv .1 .0)
+
+pub weigh-all-spec : {M : Type 1} → statement M
+weigh-all-spec =
+    tie.close
+    (tie.spec
+    Inv-loop
+    μ-loop
+    loop-holds
+    (λ c κs. search needs)
+    (λ c. search needs)
+    (λ c. search needs)
+    (λ c. search needs)
+    (λ c. search needs)
+    loop-again
+    (λ c. search needs)
+    (λ c. search needs)
+    (λ c. search needs)
+    returns)

@@ -1,0 +1,33 @@
+-- For inner functions: what they are lent for a move, and what a move leaves. Assumes nothing.
+use Prim.Native.Nat.{ℕ, _≤_}
+use mathlib.Core.Path.{_≡_}
+use mathlib.Core.List.{List}
+use lib.ListN.{length}
+use Rattle.circuit.specs.declared.Entry.{Entry}
+use Rattle.circuit.specs.Circuit.{Circuit}
+use Rattle.circuit.specs.Run.{turn, move}
+use Rattle.map.specs.Map.{mostGates, codeCount}
+use Rattle.map.specs.Check.{CodeMarks}
+use Rattle.steps.specs.declared.Turn.{Turn}
+
+-- a mark for each coded gate
+pub record CodesMarked (m coded : List ℕ) : Type 0 where
+  pub long : mostGates ≤ length coded
+  pub marks : CodeMarks m (codeCount m) coded
+
+-- a configuration, and memory to weigh options in, a byte for each gate
+pub record Space (gates : ℕ) (s trial scratch : List ℕ) : Type 0 where
+  pub for-s : gates ≡ length s
+  pub for-trial : gates ≡ length trial
+  pub for-scratch : gates ≡ length scratch
+
+-- the gates xs are turned, and counted
+pub record Turned (xs before after : List ℕ) (count : ℕ) : Type 0 where
+  pub are : after ≡ turn xs before
+  pub counted : count ≡ length xs
+
+-- the entry is done
+pub record Did (c : Circuit) (s : List ℕ) (e : Entry) (r : Turn) (after : List ℕ) : Type 0 where
+  pub gate : r .gate ≡ move c s e .gate
+  pub turned : r .turned ≡ move c s e .flips
+  pub next : after ≡ move c s e .next

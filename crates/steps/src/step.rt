@@ -1,0 +1,104 @@
+// What an entry does.
+use super::Turn;
+use super::draw;
+use super::greedy;
+use super::options;
+use circuit::Choice;
+use circuit::Entry;
+use map::Counts;
+use survey::cone;
+ghost use mathlib.Core.Path.{_≡_};
+ghost use mathlib.Core.Bool.{false};
+ghost use Prim.Native.Nat.{_<_, _≤_};
+ghost use lib.ListN.{length};
+ghost use Rattle.circuit.specs.declared.Choice.the-variants.{Up};
+ghost use Rattle.circuit.specs.Circuit.{justified};
+ghost use Rattle.circuit.specs.Run.{optionAt, chosen};
+ghost use Rattle.map.specs.Map.{circuit};
+ghost use Rattle.map.specs.Check.{Counted};
+ghost use Rattle.survey.specs.Marks.{Shown};
+ghost use Rattle.steps.specs.Steps.{CodesMarked, Space, Turned, Did};
+
+// Turns the option of gate g that stands at i modulo their number. Returns how many values.
+fn down(map: &[u8], counts: Counts, g: usize, i: u8, s: &mut [u8]) -> u32
+    requires { ⌜ Counted (now map) counts ⌝ }
+    requires { ⌜ (g < counts .gates) × (counts .gates ≡ length (now s)) ⌝ }
+    requires { ⌜ justified (circuit (now map)) (now s) g ≡ false ⌝ }
+    ensures { λ r. ⌜ Turned (optionAt (circuit (now (map .entry))) (now (s .entry)) g i) (now (s .entry)) (now (s .exit)) r ⌝ }
+{
+    let n = options::count(map, counts, g, s);
+    options::flip_option(map, counts, g, i as usize % n, s)
+}
+
+// Turns gate g itself, or if it is coded as down does. Returns how many values.
+fn up(map: &[u8], counts: Counts, g: usize, i: u8, coded: &[u8], s: &mut [u8]) -> u32
+    requires { ⌜ Counted (now map) counts ⌝ }
+    requires { ⌜ (g < counts .gates) × (counts .gates ≡ length (now s)) ⌝ }
+    requires { ⌜ justified (circuit (now map)) (now s) g ≡ false ⌝ }
+    requires { ⌜ CodesMarked (now map) (now coded) ⌝ }
+    ensures { λ r. ⌜ Turned (chosen (circuit (now (map .entry))) (now (s .entry)) g (Up i)) (now (s .entry)) (now (s .exit)) r ⌝ }
+{
+    if coded[g] != 0 {
+        return down(map, counts, g, i, s);
+    }
+    options::flip(s, g);
+    1
+}
+
+// Turns what a choice says where gate g is drawn. Returns how many values.
+fn turn_chosen(
+    map: &[u8],
+    counts: Counts,
+    g: usize,
+    choice: Choice,
+    coded: &[u8],
+    s: &mut [u8],
+    trial: &mut [u8],
+    scratch: &mut [u8],
+) -> u32
+    requires { ⌜ Counted (now map) counts ⌝ }
+    requires { ⌜ (g < counts .gates) × Space (counts .gates) (now s) (now trial) (now scratch) ⌝ }
+    requires { ⌜ justified (circuit (now map)) (now s) g ≡ false ⌝ }
+    requires { ⌜ CodesMarked (now map) (now coded) ⌝ }
+    ensures { λ r. ⌜ Turned (chosen (circuit (now (map .entry))) (now (s .entry)) g choice) (now (s .entry)) (now (s .exit)) r ⌝ }
+{
+    match choice {
+        Choice::Greedy(i) => greedy::turn(map, counts, g, i, s, trial, scratch),
+        Choice::Down(i) => down(map, counts, g, i, s),
+        Choice::Up(i) => up(map, counts, g, i, coded, s),
+    }
+}
+
+// Does an entry on s, whose cone and front the marks show. Returns the drawn gate and how many values it turned.
+pub fn entry(
+    map: &[u8],
+    counts: Counts,
+    e: Entry,
+    front: u16,
+    coded: &[u8],
+    marks: &[u8],
+    s: &mut [u8],
+    trial: &mut [u8],
+    scratch: &mut [u8],
+) -> Turn
+    requires { ⌜ Counted (now map) counts ⌝ }
+    requires { ⌜ Space (counts .gates) (now s) (now trial) (now scratch) ⌝ }
+    requires { ⌜ Shown (circuit (now map)) (now s) (now marks) front × (1 ≤ front) ⌝ }
+    requires { ⌜ CodesMarked (now map) (now coded) ⌝ }
+    ensures { λ r. ⌜ Did (circuit (now (map .entry))) (now (s .entry)) e r (now (s .exit)) ⌝ }
+{
+    let draw = e.draw;
+    let choice = e.choice;
+    let g = draw::drawn(marks, draw::place(draw, front));
+    let turned = turn_chosen(map, counts, g, choice, coded, s, trial, scratch);
+    Turn { gate: g, turned }
+}
+
+// Brings the marks up to date after values of s were turned, today by the full pass: they are the cone and front of s again. Returns the front's size.
+pub fn settle(map: &[u8], counts: Counts, s: &[u8], marks: &mut [u8]) -> u16
+    requires { ⌜ Counted (now map) counts ⌝ }
+    requires { ⌜ (counts .gates ≤ length (now s)) × (counts .gates ≡ length (now marks)) ⌝ }
+    ensures { λ r. ⌜ Shown (circuit (now (map .entry))) (now (s .entry)) (now (marks .exit)) r ⌝ }
+{
+    cone::mark(map, counts, s, marks)
+}
