@@ -68,31 +68,31 @@ fn positions_ok(map: &[u8], n: Contents) -> bool
 }
 
 // Test 6 at child j of gate g.
-fn child_ok(map: &[u8], n: Contents, g: usize, j: usize) -> bool
-    requires { ⌜ ContentsOf (now map) n ⌝ }
-    requires { ⌜ Placed (now map) × ((g < n .gates) × (j < fanIn (now map) g)) ⌝ }
+fn child_ok(map: &[u8], gates: usize, g: usize, j: usize) -> bool
+    requires { ⌜ Placed (now map) × (gates ≡ gateCount (now map)) ⌝ }
+    requires { ⌜ (g < gates) × (j < fanIn (now map) g) ⌝ }
     ensures { λ r. ⌜ r ≡ childTest (now (map .entry)) g j ⌝ }
 {
-    let x = decode::child(map, n.gates, g, j);
+    let x = decode::child(map, gates, g, j);
     if g <= x {
         return false;
     }
     if j == 0 {
         return true;
     }
-    decode::child(map, n.gates, g, j - 1) < x
+    decode::child(map, gates, g, j - 1) < x
 }
 
 // Test 6 at gate g.
-fn children_ok(map: &[u8], n: Contents, g: usize) -> bool
-    requires { ⌜ ContentsOf (now map) n ⌝ }
-    requires { ⌜ Placed (now map) × (g < n .gates) ⌝ }
+fn children_ok(map: &[u8], gates: usize, g: usize) -> bool
+    requires { ⌜ Placed (now map) × (gates ≡ gateCount (now map)) ⌝ }
+    requires { ⌜ g < gates ⌝ }
     ensures { λ r. ⌜ r ≡ childrenTest (now (map .entry)) g ⌝ }
 {
     let f = decode::fan_in(map, g);
     let mut j = 0;
     while j < f {
-        if !child_ok(map, n, g, j) {
+        if !child_ok(map, gates, g, j) {
             return false;
         }
         j += 1;
@@ -109,7 +109,7 @@ fn all_children_ok(map: &[u8], n: Contents) -> bool
     let gates = n.gates;
     let mut g = 0;
     while g < gates {
-        if !children_ok(map, n, g) {
+        if !children_ok(map, gates, g) {
             return false;
         }
         g += 1;
@@ -129,12 +129,11 @@ fn code_ascends(map: &[u8], start: usize, r: usize, x: usize) -> bool
 }
 
 // Test 7 at code r.
-fn code_ok(map: &[u8], n: Contents, r: usize) -> bool
+fn code_ok(map: &[u8], n: Contents, start: usize, r: usize) -> bool
     requires { ⌜ ContentsOf (now map) n ⌝ }
-    requires { ⌜ Shaped (now map) × (r < n .codes) ⌝ }
+    requires { ⌜ Shaped (now map) × ((start ≡ codesAt (now map)) × (r < n .codes)) ⌝ }
     ensures { λ r'. ⌜ r' ≡ codeTest (now (map .entry)) r ⌝ }
 {
-    let start = decode::child_place(n.gates, n.children);
     let x = decode::code_gate(map, start, r);
     if n.gates <= x {
         return false;
@@ -150,15 +149,15 @@ fn code_ok(map: &[u8], n: Contents, r: usize) -> bool
 }
 
 // Test 7.
-fn codes_ok(map: &[u8], n: Contents) -> bool
+fn codes_ok(map: &[u8], n: Contents, start: usize) -> bool
     requires { ⌜ ContentsOf (now map) n ⌝ }
-    requires { ⌜ Shaped (now map) ⌝ }
+    requires { ⌜ Shaped (now map) × (start ≡ codesAt (now map)) ⌝ }
     ensures { λ r. ⌜ r ≡ allBelow (codeCount (now (map .entry))) (codeTest (now (map .entry))) ⌝ }
 {
     let codes = n.codes;
     let mut r = 0;
     while r < codes {
-        if !code_ok(map, n, r) {
+        if !code_ok(map, n, start, r) {
             return false;
         }
         r += 1;
@@ -186,29 +185,22 @@ fn all_free(map: &[u8], n: Contents, marks: &[u8]) -> bool
 }
 
 // Test 8.
-fn free_ok(map: &[u8], n: Contents) -> bool
+fn free_ok(map: &[u8], n: Contents, start: usize) -> bool
     requires { ⌜ ContentsOf (now map) n ⌝ }
-    requires { ⌜ Sound (now map) ⌝ }
+    requires { ⌜ Sound (now map) × (start ≡ codesAt (now map)) ⌝ }
     ensures { λ r. ⌜ r ≡ allBelow (gateCount (now (map .entry))) (freeTest (now (map .entry))) ⌝ }
 {
     let mut marks = [0u8; MOST_GATES];
-    decode::mark_codes(
-        map,
-        decode::child_place(n.gates, n.children),
-        n.codes,
-        &mut marks,
-    );
+    decode::mark_codes(map, start, n.codes, &mut marks);
     all_free(map, n, &marks)
 }
 
-// The first of the tests 1 to 3 that fails, or 0.
-fn contents_failed(map: &[u8]) -> u8
+// The first of the tests 2 and 3 that fails, or 0.
+fn contents_failed(map: &[u8], n: Contents) -> u8
+    requires { ⌜ 12 ≤ length (now map) ⌝ }
+    requires { ⌜ ContentsOf (now map) n ⌝ }
     ensures { λ r. ⌜ r ≡ firstFailed (contentsTests (now (map .entry))) ⌝ }
 {
-    if map.len() < 12 {
-        return 1;
-    }
-    let n = decode::read_contents(map);
     if n.gates == 0 {
         return 2;
     }
@@ -227,6 +219,7 @@ fn bodies_failed(map: &[u8], n: Contents) -> u8
     requires { ⌜ Shaped (now map) ⌝ }
     ensures { λ r. ⌜ r ≡ firstFailed (bodiesTests (now (map .entry))) ⌝ }
 {
+    let start = decode::child_place(n.gates, n.children);
     if !kinds_ok(map, n) {
         return 4;
     }
@@ -236,10 +229,10 @@ fn bodies_failed(map: &[u8], n: Contents) -> u8
     if !all_children_ok(map, n) {
         return 6;
     }
-    if !codes_ok(map, n) {
+    if !codes_ok(map, n, start) {
         return 7;
     }
-    if !free_ok(map, n) {
+    if !free_ok(map, n, start) {
         return 8;
     }
     0
@@ -249,9 +242,13 @@ fn bodies_failed(map: &[u8], n: Contents) -> u8
 pub fn failed(map: &[u8]) -> u8
     ensures { λ r. ⌜ r ≡ verdict (now (map .entry)) ⌝ }
 {
-    let number = contents_failed(map);
+    if map.len() < 12 {
+        return 1;
+    }
+    let n = decode::read_contents(map);
+    let number = contents_failed(map, n);
     if number != 0 {
         return number;
     }
-    bodies_failed(map, decode::read_contents(map))
+    bodies_failed(map, n)
 }

@@ -12,10 +12,10 @@ use Rattle.map.proofs.tests.all_children_ok.Lts as lts
 use Rattle.map.proofs.tests.children_ok.Reads as children-ok-reads
 
 abbrev Inv-loop : tie.InvT-loop
-Inv-loop map n gates g₀ g = (g ≤ gates) × (allBelow g (childrenTest map) ≡ true)
+Inv-loop map gates g₀ g = (g ≤ gates) × (allBelow g (childrenTest map) ≡ true)
 
 abbrev μ-loop : tie.MeasureT-loop
-μ-loop map n gates g₀ g = gates - g
+μ-loop map gates g₀ g = gates - g
 
 pub all-children-ok-spec : {M : Type 1} → statement M
 all-children-ok-spec =

@@ -1,9 +1,10 @@
 use denote.Ref.{now}
 use mathlib.Core.Path.{_≡_}
 use mathlib.Core.Bool.{true}
+use native.Mathlib.Omega.{arith}
 use Rattle.folds.specs.Folds.{allBelow}
 use Rattle.folds.proofs.Tests.{flag-false, flag-true}
-use Rattle.map.specs.Map.{gateCount, codeCount}
+use Rattle.map.specs.Map.{gateCount, codeCount, codesAt}
 use Rattle.map.specs.Check.{kindTest, positionsTest, childrenTest, codeTest, firstFailed, bodiesTests, Placed}
 use Rattle.map.proofs.Laws.{placed-of, sound-of}
 use borrow.Author.Needs.{needs}
@@ -12,6 +13,7 @@ use Rattle.map.proofs.tests.bodies_failed.Tie as tie
 use Rattle.map.proofs.tests.bodies_failed.Reads as reads
 use Rattle.map.proofs.tests.bodies_failed.Lts as lts
 use Rattle.map.proofs.tests.all_children_ok.Reads as all-children-ok-reads
+use Rattle.map.proofs.decode.child_place.Reads as child-place-reads
 use Rattle.map.proofs.tests.codes_ok.Reads as codes-ok-reads
 use Rattle.map.proofs.tests.free_ok.Reads as free-ok-reads
 use Rattle.map.proofs.tests.kinds_ok.Reads as kinds-ok-reads
@@ -48,12 +50,19 @@ returns-3 : tie.Need-returns-3
 unfolding bodiesTests firstFailed
 returns-3 c = rw (four (search), five (search), flag-false _ _ (c .if3 .taken) (c .before .all-children-ok .ensures))
 
+-- where the codes begin
+codes-at : (c : tie.After-child-place) → let s : tie.Start = search in c .child-place .result ≡ codesAt (now (s .args .map))
+codes-at c = let s : tie.Start = search in omega (arith, s .pre .0)
+
+codes-ok-requires : tie.Need-codes-ok-requires
+codes-ok-requires c κs = let s : tie.Start = search in (s .pre .0, (s .pre .1, codes-at (search)))
+
 returns-4 : tie.Need-returns-4
 unfolding bodiesTests firstFailed
 returns-4 c = rw (four (search), five (search), six (search), flag-false _ _ (c .if4 .taken) (c .before .codes-ok .ensures))
 
 free-ok-requires : tie.Need-free-ok-requires
-free-ok-requires c κs = let s : tie.Start = search in (s .pre .0, sound-of _ (placed (search)) (six (search)) (seven c))
+free-ok-requires c κs = let s : tie.Start = search in (s .pre .0, (sound-of _ (placed (search)) (six (search)) (seven c), codes-at (search)))
 
 returns-5 : tie.Need-returns-5
 unfolding bodiesTests firstFailed
@@ -68,12 +77,13 @@ bodies-failed-spec =
     tie.close
     (tie.spec
     (λ c κs. search needs)
+    (λ c κs. search needs)
     returns
     (λ c κs. search needs)
     returns-2
     all-children-ok-requires
     returns-3
-    (λ c κs. search needs)
+    codes-ok-requires
     returns-4
     free-ok-requires
     returns-5

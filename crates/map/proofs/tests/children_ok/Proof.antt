@@ -14,16 +14,16 @@ use Rattle.map.proofs.decode.fan_in.Reads as fan-in-reads
 use Rattle.map.proofs.tests.child_ok.Reads as child-ok-reads
 
 abbrev Inv-loop : tie.InvT-loop
-Inv-loop map n g f j₀ j = (j ≤ f) × (allBelow j (childTest map g) ≡ true)
+Inv-loop map gates g f j₀ j = (j ≤ f) × (allBelow j (childTest map g) ≡ true)
 
 abbrev μ-loop : tie.MeasureT-loop
-μ-loop map n g f j₀ j = f - j
+μ-loop map gates g f j₀ j = f - j
 
 child-ok-requires : tie.Need-child-ok-requires Inv-loop μ-loop
 child-ok-requires c κs =
     let f : tie.After-fan-in Inv-loop μ-loop = search in
     let s : tie.Start Inv-loop μ-loop = search in
-    (s .pre .0, (s .pre .1 .0, (s .pre .1 .1, omega (arith, f .fan-in .ensures .0))))
+    (s .pre .0, (s .pre .1, omega (arith, f .fan-in .ensures .0)))
 
 returns : tie.Need-returns Inv-loop μ-loop
 unfolding childrenTest

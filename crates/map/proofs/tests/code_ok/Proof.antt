@@ -1,6 +1,5 @@
 use denote.Ref.{now}
 use mathlib.Core.Path.{_≡_}
-use native.Mathlib.Omega.{arith}
 use Rattle.folds.proofs.Tests.{bools, flags}
 use Rattle.map.specs.Check.{codeTest}
 use Rattle.map.proofs.Laws.{codeTestBy, code-test}
@@ -9,20 +8,16 @@ use Rattle.map.proofs.tests.code_ok.Statement.{statement}
 use Rattle.map.proofs.tests.code_ok.Tie as tie
 use Rattle.map.proofs.tests.code_ok.Reads as reads
 use Rattle.map.proofs.tests.code_ok.Lts as lts
-use Rattle.map.proofs.decode.child_place.Reads as child-place-reads
 use Rattle.map.proofs.decode.code_gate.Reads as code-gate-reads
 use Rattle.map.proofs.tests.code_ascends.Reads as code-ascends-reads
 
 -- test 7 by what is read
 module _ (c : tie.After-code-gate) where
-  abbrev p : tie.After-child-place
-  p = search
-
   abbrev s : tie.Start
   s = search
 
-  by-reads : codeTest (now (s .args .map)) (s .args .r) ≡ codeTestBy (now (s .args .map)) (s .args .n .gates) (p .child-place .result) (s .args .r) (c .code-gate .result)
-  by-reads = code-test _ _ _ _ _ (s .pre .0 .gates .0) (omega (arith, s .pre .0)) (c .code-gate .ensures .0)
+  by-reads : codeTest (now (s .args .map)) (s .args .r) ≡ codeTestBy (now (s .args .map)) (s .args .n .gates) (s .args .start) (s .args .r) (c .code-gate .result)
+  by-reads = code-test _ _ _ _ _ (s .pre .0 .gates .0) (s .pre .1 .1 .0) (c .code-gate .ensures .0)
 
 returns : tie.Need-returns
 returns c = rw (by-reads (search)) (search (bools, flags))
@@ -40,7 +35,6 @@ pub code-ok-spec : {M : Type 1} → statement M
 code-ok-spec =
     tie.close
     (tie.spec
-    (λ c κs. search needs)
     (λ c κs. search needs)
     returns
     (λ c κs. search needs)
