@@ -22,8 +22,7 @@ run-passed m s tape work ans e =
     let t13 = none-failed 12 _ _ (t12 .1) in
     let t14 = none-failed 13 _ _ (t13 .1) .0 in
     record {
-      keeps = start-of m s k;
-      whole = t12 .0;
+      begins = record { keeps = start-of m s k; whole = t12 .0 };
       room = record { work-room = leb-true _ _ (and-left _ _ t14); answer-room = leb-true _ _ (and-right _ _ t14) };
     }
 

@@ -9,9 +9,13 @@ use Rattle.map.specs.Map.{gateCount, circuit}
 use Rattle.tape.specs.Tape.{tapeTest}
 use Rattle.search.specs.Run.{Room}
 
-pub record RunTested (m s tape work ans : List ℕ) : Type 0 where
+-- a run may begin
+pub record Begins (m s tape : List ℕ) : Type 0 where
   pub keeps : KeepsCodes (circuit m) s
   pub whole : tapeTest tape ≡ true
+
+pub record RunTested (m s tape work ans : List ℕ) : Type 0 where
+  pub begins : Begins m s tape
   pub room : Room m work ans
 
 pub record MoveTested (m s entry work : List ℕ) : Type 0 where

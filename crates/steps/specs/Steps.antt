@@ -1,12 +1,13 @@
 -- For inner functions: what they are lent for a move, and what a move leaves. Assumes nothing.
-use Prim.Native.Nat.{ℕ, _≤_}
+use Prim.Native.Nat.{ℕ, _<_, _≤_}
 use mathlib.Core.Path.{_≡_}
+use mathlib.Core.Bool.{false}
 use mathlib.Core.List.{List}
 use lib.ListN.{length}
 use Rattle.circuit.specs.declared.Entry.{Entry}
-use Rattle.circuit.specs.Circuit.{Circuit}
+use Rattle.circuit.specs.Circuit.{Circuit, justified}
 use Rattle.circuit.specs.Run.{turn, move}
-use Rattle.map.specs.Map.{mostGates, codeCount}
+use Rattle.map.specs.Map.{mostGates, codeCount, circuit}
 use Rattle.map.specs.Check.{CodeMarks}
 use Rattle.steps.specs.declared.Turn.{Turn}
 
@@ -20,6 +21,16 @@ pub record Space (gates : ℕ) (s trial scratch : List ℕ) : Type 0 where
   pub for-s : gates ≡ length s
   pub for-trial : gates ≡ length trial
   pub for-scratch : gates ≡ length scratch
+
+-- both
+pub record Workspace (m : List ℕ) (gates : ℕ) (coded s trial scratch : List ℕ) : Type 0 where
+  pub codes : CodesMarked m coded
+  pub space : Space gates s trial scratch
+
+-- a gate that an entry may draw
+pub record Drawable (m : List ℕ) (gates : ℕ) (s : List ℕ) (g : ℕ) : Type 0 where
+  pub below : g < gates
+  pub unjustified : justified (circuit m) s g ≡ false
 
 -- the gates xs are turned, and counted
 pub record Turned (xs before after : List ℕ) (count : ℕ) : Type 0 where

@@ -5,16 +5,14 @@ use map::Counts;
 use survey::writing;
 ghost use mathlib.Core.Path.{_≡_};
 ghost use mathlib.Core.List.{_++_};
-ghost use mathlib.Core.Bool.{false};
 ghost use Prim.Native.Nat.{_<_, _≤_};
 ghost use lib.ListN.{length, drop};
 ghost use Rattle.circuit.specs.declared.Choice.the-variants.{Greedy};
-ghost use Rattle.circuit.specs.Circuit.{justified};
 ghost use Rattle.circuit.specs.Run.{chosen};
 ghost use Rattle.map.specs.Map.{circuit};
 ghost use Rattle.map.specs.Check.{Counted};
 ghost use Rattle.steps.specs.Options.{optionGates, weightsOf, interestAfter};
-ghost use Rattle.steps.specs.Steps.{Space, Turned};
+ghost use Rattle.steps.specs.Steps.{Space, Drawable, Turned};
 
 // Copies s over the trial configuration.
 fn copy(s: &[u8], trial: &mut [u8])
@@ -83,8 +81,8 @@ pub fn turn(
     marks: &mut [u8],
 ) -> u32
     requires { ⌜ Counted (now map) counts ⌝ }
-    requires { ⌜ (g < counts .gates) × Space (counts .gates) (now s) (now trial) (now marks) ⌝ }
-    requires { ⌜ justified (circuit (now map)) (now s) g ≡ false ⌝ }
+    requires { ⌜ Drawable (now map) (counts .gates) (now s) g ⌝ }
+    requires { ⌜ Space (counts .gates) (now s) (now trial) (now marks) ⌝ }
     ensures { λ r. ⌜ Turned (chosen (circuit (now (map .entry))) (now (s .entry)) g (Greedy i)) (now (s .entry)) (now (s .exit)) r ⌝ }
 {
     let n = options::count(map, counts, g, s);

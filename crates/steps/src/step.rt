@@ -8,22 +8,20 @@ use circuit::Entry;
 use map::Counts;
 use survey::cone;
 ghost use mathlib.Core.Path.{_≡_};
-ghost use mathlib.Core.Bool.{false};
-ghost use Prim.Native.Nat.{_<_, _≤_};
+ghost use Prim.Native.Nat.{_≤_};
 ghost use lib.ListN.{length};
 ghost use Rattle.circuit.specs.declared.Choice.the-variants.{Up};
-ghost use Rattle.circuit.specs.Circuit.{justified};
 ghost use Rattle.circuit.specs.Run.{optionAt, chosen};
 ghost use Rattle.map.specs.Map.{circuit};
 ghost use Rattle.map.specs.Check.{Counted};
 ghost use Rattle.survey.specs.Marks.{Shown};
-ghost use Rattle.steps.specs.Steps.{CodesMarked, Space, Turned, Did};
+ghost use Rattle.steps.specs.Steps.{CodesMarked, Workspace, Drawable, Turned, Did};
 
 // Turns the option of gate g that stands at i modulo their number. Returns how many values.
 fn down(map: &[u8], counts: Counts, g: usize, i: u8, s: &mut [u8]) -> u32
     requires { ⌜ Counted (now map) counts ⌝ }
-    requires { ⌜ (g < counts .gates) × (counts .gates ≡ length (now s)) ⌝ }
-    requires { ⌜ justified (circuit (now map)) (now s) g ≡ false ⌝ }
+    requires { ⌜ Drawable (now map) (counts .gates) (now s) g ⌝ }
+    requires { ⌜ counts .gates ≡ length (now s) ⌝ }
     ensures { λ r. ⌜ Turned (optionAt (circuit (now (map .entry))) (now (s .entry)) g i) (now (s .entry)) (now (s .exit)) r ⌝ }
 {
     let n = options::count(map, counts, g, s);
@@ -33,8 +31,8 @@ fn down(map: &[u8], counts: Counts, g: usize, i: u8, s: &mut [u8]) -> u32
 // Turns gate g itself, or if it is coded as down does. Returns how many values.
 fn up(map: &[u8], counts: Counts, g: usize, i: u8, coded: &[u8], s: &mut [u8]) -> u32
     requires { ⌜ Counted (now map) counts ⌝ }
-    requires { ⌜ (g < counts .gates) × (counts .gates ≡ length (now s)) ⌝ }
-    requires { ⌜ justified (circuit (now map)) (now s) g ≡ false ⌝ }
+    requires { ⌜ Drawable (now map) (counts .gates) (now s) g ⌝ }
+    requires { ⌜ counts .gates ≡ length (now s) ⌝ }
     requires { ⌜ CodesMarked (now map) (now coded) ⌝ }
     ensures { λ r. ⌜ Turned (chosen (circuit (now (map .entry))) (now (s .entry)) g (Up i)) (now (s .entry)) (now (s .exit)) r ⌝ }
 {
@@ -57,9 +55,8 @@ fn turn_chosen(
     scratch: &mut [u8],
 ) -> u32
     requires { ⌜ Counted (now map) counts ⌝ }
-    requires { ⌜ (g < counts .gates) × Space (counts .gates) (now s) (now trial) (now scratch) ⌝ }
-    requires { ⌜ justified (circuit (now map)) (now s) g ≡ false ⌝ }
-    requires { ⌜ CodesMarked (now map) (now coded) ⌝ }
+    requires { ⌜ Drawable (now map) (counts .gates) (now s) g ⌝ }
+    requires { ⌜ Workspace (now map) (counts .gates) (now coded) (now s) (now trial) (now scratch) ⌝ }
     ensures { λ r. ⌜ Turned (chosen (circuit (now (map .entry))) (now (s .entry)) g choice) (now (s .entry)) (now (s .exit)) r ⌝ }
 {
     match choice {
@@ -82,9 +79,8 @@ pub fn entry(
     scratch: &mut [u8],
 ) -> Turn
     requires { ⌜ Counted (now map) counts ⌝ }
-    requires { ⌜ Space (counts .gates) (now s) (now trial) (now scratch) ⌝ }
+    requires { ⌜ Workspace (now map) (counts .gates) (now coded) (now s) (now trial) (now scratch) ⌝ }
     requires { ⌜ Shown (circuit (now map)) (now s) (now marks) front × (1 ≤ front) ⌝ }
-    requires { ⌜ CodesMarked (now map) (now coded) ⌝ }
     ensures { λ r. ⌜ Did (circuit (now (map .entry))) (now (s .entry)) e r (now (s .exit)) ⌝ }
 {
     let draw = e.draw;

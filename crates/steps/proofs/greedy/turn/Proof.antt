@@ -17,7 +17,7 @@ use Rattle.steps.proofs.weights.best.Reads as best-reads
 few : (c : tie.After-count) → (1 ≤ c .count .result) × (c .count .result ≤ 8)
 few c =
     let s : tie.Start = search in
-    rw (c .count .ensures) (some-options (now (s .args .map)) (now (s .args .s)) (s .args .g) (s .pre .0 .is) (omega arith) (s .pre .1 .1))
+    rw (c .count .ensures) (some-options (now (s .args .map)) (now (s .args .s)) (s .args .g) (s .pre .0 .is) (omega arith) (s .pre .1 .0 .unjustified))
 
 returns : tie.Need-returns
 returns c =
@@ -30,7 +30,7 @@ returns c =
 weigh-all-requires : tie.Need-weigh-all-requires
 weigh-all-requires c κs =
     let s : tie.Start = search in
-    (s .pre .0, (s .pre .1 .0, omega (arith, few (search))))
+    (s .pre .0, ((s .pre .1 .0 .below, s .pre .1 .1), omega (arith, few (search))))
 
 best-requires : tie.Need-best-requires
 best-requires c κs =

@@ -14,7 +14,7 @@ use Rattle.steps.proofs.options.flip_option.Reads as flip-option-reads
 some : (c : tie.After-count) → 1 ≤ c .count .result
 some c =
     let s : tie.Start = search in
-    rw (c .count .ensures) (some-options (now (s .args .map)) (now (s .args .s)) (s .args .g) (s .pre .0 .is) (omega arith) (s .pre .1 .1) .0)
+    rw (c .count .ensures) (some-options (now (s .args .map)) (now (s .args .s)) (s .args .g) (s .pre .0 .is) (omega arith) (s .pre .1 .0 .unjustified) .0)
 
 rem-flip-option : tie.Need-rem-flip-option
 rem-flip-option c = omega (arith, some (search))

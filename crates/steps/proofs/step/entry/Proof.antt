@@ -27,7 +27,7 @@ module _ (c : tie.After-drawn) where
 
   is-drawn : c .drawn .result ≡ drawn k (now (start .args .s)) (start .args .e .draw)
   is-drawn = let p : tie.After-place = search in
-      drawn-is k (now (start .args .s)) _ (start .args .e .draw) _ _ (start .pre .1 .1 .0 .0 .are) (rw (start .pre .1 .1 .0 .0 .front-is) at (p .place .ensures .0)) (c .drawn .ensures .0)
+      drawn-is k (now (start .args .s)) _ (start .args .e .draw) _ _ (start .pre .1 .1 .0 .are) (rw (start .pre .1 .1 .0 .front-is) at (p .place .ensures .0)) (c .drawn .ensures .0)
 
   unjustified : (c .drawn .result < gateCount (now (start .args .map))) × (justified k (now (start .args .s)) (c .drawn .result) ≡ false)
   unjustified =
@@ -37,13 +37,13 @@ module _ (c : tie.After-drawn) where
 drawn-requires : tie.Need-drawn-requires
 drawn-requires c κs =
     let s : tie.Start = search in
-    omega (arith, c .place .ensures .1, front-size (circuit (now (s .args .map))) (now (s .args .s)) _ (s .pre .1 .1 .0 .0 .are), s .pre .1 .1 .0)
+    omega (arith, c .place .ensures .1, front-size (circuit (now (s .args .map))) (now (s .args .s)) _ (s .pre .1 .1 .0 .are), s .pre .1 .1)
 
 turn-chosen-requires : tie.Need-turn-chosen-requires
 turn-chosen-requires c κs =
     let s : tie.Start = search in
     let d = unjustified (search) in
-    (s .pre .0, ((omega (arith, d .0), s .pre .1 .0), (d .1, s .pre .1 .1 .1)))
+    (s .pre .0, (record { below = omega (arith, d .0); unjustified = d .1 }, s .pre .1 .0))
 
 returns : tie.Need-returns
 unfolding turned
