@@ -18,17 +18,19 @@ fn offsets_ok(map: &[u8], n: Contents) -> bool
     requires { ⌜ ContentsOf (now map) n ⌝ }
     ensures { λ r. ⌜ r ≡ offsetsTest (now (map .entry)) ⌝ }
 {
+    let children = decode::child_place(n.gates, 0);
     let codes = decode::child_place(n.gates, n.children);
+    let end = codes + 4 * n.codes;
     if decode::word(map, 0) != 12 {
         return false;
     }
-    if decode::word(map, 4) != decode::child_place(n.gates, 0) {
+    if decode::word(map, 4) != children {
         return false;
     }
     if decode::word(map, 8) != codes {
         return false;
     }
-    map.len() == codes + 4 * n.codes
+    map.len() == end
 }
 
 // Test 4.

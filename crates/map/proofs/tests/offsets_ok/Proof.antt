@@ -13,10 +13,10 @@ use Rattle.map.proofs.decode.child_place.Reads as child-place-reads
 use Rattle.map.proofs.decode.word.Reads as word-reads
 
 -- the offsets that the counts give
-codes-at : (c : tie.After-child-place) → let s : tie.Start = search in c .child-place .result ≡ codesAt (now (s .args .map))
+codes-at : (c : tie.After-child-place2) → let s : tie.Start = search in c .child-place2 .result ≡ codesAt (now (s .args .map))
 codes-at c = let s : tie.Start = search in omega (arith, s .pre .1)
 
-children-at : (c : tie.After-child-place2) → let s : tie.Start = search in c .child-place2 .result ≡ childrenAt (now (s .args .map))
+children-at : (c : tie.After-child-place) → let s : tie.Start = search in c .child-place .result ≡ childrenAt (now (s .args .map))
 children-at c = let s : tie.Start = search in omega (arith, s .pre .1)
 
 returns : tie.Need-returns
@@ -52,12 +52,12 @@ offsets-ok-spec =
     (tie.spec
     (λ c κs. search needs)
     (λ c κs. search needs)
-    returns
+    (λ c. search needs)
+    (λ c. search needs)
     (λ c κs. search needs)
+    returns
     (λ c κs. search needs)
     returns-2
     (λ c κs. search needs)
     returns-3
-    (λ c. search needs)
-    (λ c. search needs)
     returns-4)
