@@ -22,7 +22,7 @@ pub record Space (gates : ℕ) (s trial scratch : List ℕ) : Type 0 where
   pub for-trial : gates ≡ length trial
   pub for-scratch : gates ≡ length scratch
 
--- both
+-- both: all that an entry works with beside the marks
 pub record Workspace (m : List ℕ) (gates : ℕ) (coded s trial scratch : List ℕ) : Type 0 where
   pub codes : CodesMarked m coded
   pub space : Space gates s trial scratch
@@ -33,7 +33,7 @@ pub record Drawable (m : List ℕ) (gates : ℕ) (s : List ℕ) (g : ℕ) : Type
   pub unjustified : justified (circuit m) s g ≡ false
 
 -- the gates xs are turned, and counted
-pub record Turned (xs before after : List ℕ) (count : ℕ) : Type 0 where
+pub record Flipped (xs before after : List ℕ) (count : ℕ) : Type 0 where
   pub are : after ≡ turn xs before
   pub counted : count ≡ length xs
 

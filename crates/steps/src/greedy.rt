@@ -12,7 +12,7 @@ ghost use Rattle.circuit.specs.Run.{chosen};
 ghost use Rattle.map.specs.Map.{circuit};
 ghost use Rattle.map.specs.Check.{Counted};
 ghost use Rattle.steps.specs.Options.{optionGates, weightsOf, interestAfter};
-ghost use Rattle.steps.specs.Steps.{Space, Drawable, Turned};
+ghost use Rattle.steps.specs.Steps.{Space, Drawable, Flipped};
 
 // Copies s over the trial configuration.
 fn copy(s: &[u8], trial: &mut [u8])
@@ -83,7 +83,7 @@ pub fn turn(
     requires { ⌜ Counted (now map) counts ⌝ }
     requires { ⌜ Drawable (now map) (counts .gates) (now s) g ⌝ }
     requires { ⌜ Space (counts .gates) (now s) (now trial) (now marks) ⌝ }
-    ensures { λ r. ⌜ Turned (chosen (circuit (now (map .entry))) (now (s .entry)) g (Greedy i)) (now (s .entry)) (now (s .exit)) r ⌝ }
+    ensures { λ r. ⌜ Flipped (chosen (circuit (now (map .entry))) (now (s .entry)) g (Greedy i)) (now (s .entry)) (now (s .exit)) r ⌝ }
 {
     let n = options::count(map, counts, g, s);
     if n == 1 {

@@ -15,7 +15,7 @@ ghost use Rattle.map.specs.Map.{fanIn};
 ghost use Rattle.kinds.specs.Kinds.{optionTurns};
 ghost use Rattle.map.specs.Check.{Counted};
 ghost use Rattle.steps.specs.Options.{optionsOf, optionGates};
-ghost use Rattle.steps.specs.Steps.{Turned};
+ghost use Rattle.steps.specs.Steps.{Flipped};
 
 // The other value.
 fn other(b: u8) -> u8
@@ -59,7 +59,7 @@ pub fn count(map: &[u8], counts: Counts, g: usize, s: &[u8]) -> usize
 pub fn flip_option(map: &[u8], counts: Counts, g: usize, i: usize, s: &mut [u8]) -> u32
     requires { ⌜ Counted (now map) counts ⌝ }
     requires { ⌜ (g < counts .gates) × (counts .gates ≤ length (now s)) ⌝ }
-    ensures { λ r. ⌜ Turned (optionGates (now (map .entry)) (now (s .entry)) g i) (now (s .entry)) (now (s .exit)) r ⌝ }
+    ensures { λ r. ⌜ Flipped (optionGates (now (map .entry)) (now (s .entry)) g i) (now (s .entry)) (now (s .exit)) r ⌝ }
 {
     let kind = decode::kind(map, g);
     let v = s[g] == 1;

@@ -15,14 +15,14 @@ ghost use Rattle.circuit.specs.Run.{optionAt, chosen};
 ghost use Rattle.map.specs.Map.{circuit};
 ghost use Rattle.map.specs.Check.{Counted};
 ghost use Rattle.survey.specs.Marks.{Shown};
-ghost use Rattle.steps.specs.Steps.{CodesMarked, Workspace, Drawable, Turned, Did};
+ghost use Rattle.steps.specs.Steps.{CodesMarked, Workspace, Drawable, Flipped, Did};
 
 // Turns the option of gate g that stands at i modulo their number. Returns how many values.
 fn down(map: &[u8], counts: Counts, g: usize, i: u8, s: &mut [u8]) -> u32
     requires { ⌜ Counted (now map) counts ⌝ }
     requires { ⌜ Drawable (now map) (counts .gates) (now s) g ⌝ }
     requires { ⌜ counts .gates ≡ length (now s) ⌝ }
-    ensures { λ r. ⌜ Turned (optionAt (circuit (now (map .entry))) (now (s .entry)) g i) (now (s .entry)) (now (s .exit)) r ⌝ }
+    ensures { λ r. ⌜ Flipped (optionAt (circuit (now (map .entry))) (now (s .entry)) g i) (now (s .entry)) (now (s .exit)) r ⌝ }
 {
     let n = options::count(map, counts, g, s);
     options::flip_option(map, counts, g, i as usize % n, s)
@@ -34,7 +34,7 @@ fn up(map: &[u8], counts: Counts, g: usize, i: u8, coded: &[u8], s: &mut [u8]) -
     requires { ⌜ Drawable (now map) (counts .gates) (now s) g ⌝ }
     requires { ⌜ counts .gates ≡ length (now s) ⌝ }
     requires { ⌜ CodesMarked (now map) (now coded) ⌝ }
-    ensures { λ r. ⌜ Turned (chosen (circuit (now (map .entry))) (now (s .entry)) g (Up i)) (now (s .entry)) (now (s .exit)) r ⌝ }
+    ensures { λ r. ⌜ Flipped (chosen (circuit (now (map .entry))) (now (s .entry)) g (Up i)) (now (s .entry)) (now (s .exit)) r ⌝ }
 {
     if coded[g] != 0 {
         return down(map, counts, g, i, s);
@@ -57,7 +57,7 @@ fn turn_chosen(
     requires { ⌜ Counted (now map) counts ⌝ }
     requires { ⌜ Drawable (now map) (counts .gates) (now s) g ⌝ }
     requires { ⌜ Workspace (now map) (counts .gates) (now coded) (now s) (now trial) (now scratch) ⌝ }
-    ensures { λ r. ⌜ Turned (chosen (circuit (now (map .entry))) (now (s .entry)) g choice) (now (s .entry)) (now (s .exit)) r ⌝ }
+    ensures { λ r. ⌜ Flipped (chosen (circuit (now (map .entry))) (now (s .entry)) g choice) (now (s .entry)) (now (s .exit)) r ⌝ }
 {
     match choice {
         Choice::Greedy(i) => greedy::turn(map, counts, g, i, s, trial, scratch),

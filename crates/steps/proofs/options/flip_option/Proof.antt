@@ -1,4 +1,4 @@
-use Rattle.steps.specs.Steps.{Turned}
+use Rattle.steps.specs.Steps.{Flipped}
 use Rattle.map.specs.Map.{fanIn}
 use Prim.Native.Nat.{_-_, _≤_}
 use lib.ListN.{length}
@@ -24,7 +24,7 @@ use Rattle.steps.proofs.options.flip_child.Reads as flip-child-reads
 use Rattle.map.proofs.decode.kid.Reads as kid-reads
 
 abbrev Inv-loop : tie.InvT-loop
-Inv-loop map counts g i s₀ kind v fan first turned₀ j₀ s turned j = (j ≤ fan) × (Turned (optionUpTo map s₀ g i j) s₀ s turned × ((turned ≤ j) × (length s ≡ length s₀)))
+Inv-loop map counts g i s₀ kind v fan first turned₀ j₀ s turned j = (j ≤ fan) × (Flipped (optionUpTo map s₀ g i j) s₀ s turned × ((turned ≤ j) × (length s ≡ length s₀)))
 
 abbrev μ-loop : tie.MeasureT-loop
 μ-loop map counts g i s₀ kind v fan first turned₀ j₀ s turned j = fan - j
