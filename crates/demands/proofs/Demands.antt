@@ -24,7 +24,7 @@ use Rattle.circuit.proofs.Found.{answer-is}
 use Rattle.circuit.proofs.Trace.{demand2-on-circuits}
 use Rattle.circuit.proofs.Turns.{differ-most}
 use Rattle.circuit.proofs.Finish.{demand3-on-circuits}
-use Rattle.map.specs.Map.{gateCount, codeCount, codeGate, codeValue, circuit}
+use Rattle.map.specs.Map.{mostGates, gateCount, codeCount, codeGate, codeValue, circuit}
 use Rattle.map.specs.Check.{firstFailed, mapTests, verdict, IsMap}
 use Rattle.map.proofs.Accepted.{facts, well-formed}
 use Rattle.map.proofs.Codes.{code-found}
@@ -112,7 +112,7 @@ module _ (m s tape work ans : List ℕ) (a : Runnable m s tape work ans) where
         long = over-long (answer (circuit m) (end .last)) ans (gateCount m) l (a .room .answer-room);
       }
 
-  bounds : (end .outcome .moves ≤ 16383) × ((end .outcome .flips ≤ 8 * end .outcome .moves) × (told (end .outcome .ending) .front ≤ 1024))
+  bounds : (end .outcome .moves ≤ 16383) × ((end .outcome .flips ≤ 8 * end .outcome .moves) × (told (end .outcome .ending) .front ≤ mostGates))
   bounds =
       let (i, j) = run-few (circuit m) ok s (a .start) (entries tape) in
       let f = ap (λ (t : Told). t .front) (run-ends (circuit m) s (entries tape)) in

@@ -16,14 +16,14 @@ use Rattle.circuit.specs.Tools.{upTo}
 use Rattle.circuit.specs.Gate.{kindOf, isInput}
 use Rattle.circuit.specs.Evaluate.{rowOf}
 use Rattle.circuit.proofs.Lists.{select-length, length-upTo}
-use Rattle.map.specs.Map.{u16At, gateCount, kindByte}
+use Rattle.map.specs.Map.{mostGates, u16At, gateCount, kindByte}
 use Rattle.map.specs.Check.{Shaped, verdict}
 use Rattle.map.proofs.Accepted.{facts}
 use Rattle.map.proofs.Answers.{behind-declined}
 use Rattle.search.specs.Run.{runTests, runningBy, running, Room}
 use Rattle.demands.proofs.Demands.{same-for-all-memories}
 use Rattle.line.specs.Text.{decimalIn, readOn, readDecimal, DecimalReads}
-use Rattle.line.specs.Line.{tapeAt, mapPart, configurationPart, tapePart, inputTest, lent, rowText, report, runLine, lineOf, inputOf, ExactInput, SameLineForAllMemories, TooLong, NotExact, CutInput, lineRoom, LineFits}
+use Rattle.line.specs.Line.{mostInput, inputRoom, tapeAt, mapPart, configurationPart, tapePart, inputTest, lent, rowText, report, runLine, lineOf, inputOf, ExactInput, SameLineForAllMemories, TooLong, NotExact, CutInput, lineRoom, LineFits}
 use Rattle.line.proofs.Rows.{same-row}
 use Rattle.line.proofs.Lines.{found-shaped, line-refused, line-runs, map-part, configuration-part, tape-part, parts-whole}
 
@@ -34,18 +34,18 @@ exact-input m s tape h = rw (map-part m s tape, configuration-part m s tape, tap
 
 pub too-long : TooLong
 unfolding inputTest
-too-long x h = sym (line-refused x (and-first-false _ _ (lt-leb (length x) 65536 h)))
+too-long x h = sym (line-refused x (and-first-false _ _ (lt-leb (length x) mostInput h)))
 
 pub not-exact : NotExact
 unfolding inputTest
 not-exact x h = sym (line-refused x (and-second-false _ _ (ne-eqb (length x) (tapeAt x + u16At x 4) h)))
 
 pub cut-input : CutInput
-cut-input x = elim (which (leb (length x) 65537)) [
-  | inl q ↦ ap lineOf (take-all 65537 x (leb-true _ _ q))
-  | inr q ↦ (let h : 65537 < length x = leb-false _ _ q in
-      let n : length (take 65537 x) ≡ 65537 = length-take-le 65537 x (omega arith) in
-      too-long (take 65537 x) (omega arith) ∙ sym (too-long x (omega arith)))
+cut-input x = elim (which (leb (length x) inputRoom)) [
+  | inl q ↦ ap lineOf (take-all inputRoom x (leb-true _ _ q))
+  | inr q ↦ (let h : inputRoom < length x = leb-false _ _ q in
+      let n : length (take inputRoom x) ≡ inputRoom = length-take-le inputRoom x (omega arith) in
+      too-long (take inputRoom x) (omega arith) ∙ sym (too-long x (omega arith)))
 ]
 
 -- ---- all memories
@@ -60,7 +60,7 @@ module _ (m s tape work ans : List ℕ) where
   same-accepted : verdict m ≡ 0 → Room m work ans → runLine m (running m s tape work ans) ≡ runLine m (running m s tape lent lent)
   unfolding lent
   same-accepted v r =
-      let l : gateCount m ≤ 1024 = facts m v .sound .placed .shaped .few in
+      let l : gateCount m ≤ mostGates = facts m v .sound .placed .shaped .few in
       let q = same-for-all-memories m s tape work ans lent lent r (record { work-room = l; answer-room = l }) in
       same-report _ _ _ m _ _ (q .answered) ∙ rw (q .outcome)
 

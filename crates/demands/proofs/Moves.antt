@@ -18,17 +18,17 @@ use Rattle.circuit.proofs.Survey.{survey-is}
 use Rattle.circuit.proofs.Moves.{no-front, some-front, entry-done}
 use Rattle.map.specs.Map.{gateCount, circuit}
 use Rattle.map.specs.Check.{firstFailed, mapTests, IsMap}
-use Rattle.map.proofs.Laws.{past, no-test, none-failed, passed-before}
+use Rattle.map.proofs.Laws.{past, no-test, none-failed}
 use Rattle.map.proofs.Accepted.{facts, well-formed}
 use Rattle.map.proofs.Answers.{behind-accepted}
 use Rattle.map.proofs.Described.{tested, map-number}
 use Rattle.state.specs.State.{over}
 use Rattle.state.proofs.Over.{over-first, over-rest, over-long}
 use Rattle.state.proofs.Meaning.{behind}
-use Rattle.survey.specs.Survey.{startTests}
-use Rattle.survey.proofs.Starts.{behind-start, start-of, of-start, start-number}
+use Rattle.survey.proofs.Starts.{behind-start, of-start, start-number}
 use Rattle.tape.specs.Tape.{entryAt, kindsTest}
 use Rattle.search.specs.Move.{frontTest, entryTests, moveTests, movingBy, moving, MoveWrites, Movable, MoveAccepts, MoveNumber, MoveDeclines}
+use Rattle.search.proofs.Passed.{move-passed, early-none, early-passes}
 use Rattle.demands.proofs.Tapes.{entry-read}
 
 -- test 15
@@ -75,23 +75,13 @@ module _ (m s entry work : List ℕ) where
 
   -- what each test says
   movable : number ≡ 0 → Movable m s entry work
-  unfolding moveTests entryTests frontTest
+  unfolding frontTest
   movable n =
       let (v, t) = behind m (moveTests m s entry work) n in
-      let k = passed-before (startTests m s) _ t in
-      let t12 = none-failed 11 _ _ (sym (behind-start m s _ k) ∙ t) in
-      let t13 = none-failed 12 _ _ (t12 .1) in
-      let t14 = none-failed 13 _ _ (t13 .1) in
-      let t15 = none-failed 14 _ _ (t14 .1) in
-      let four = eqb-true _ _ (t12 .0) in
-      record {
-        accepted = v;
-        start = start-of m s k;
-        four-bytes = four;
-        kind = kind-of four (t13 .0);
-        room = leb-true _ _ (t14 .0);
-        some-front = front-of m s (facts m v) (t15 .0);
-      }
+      let e = early-none m s entry work t in
+      let p = move-passed m s entry work e in
+      let t15 = none-failed 14 _ _ (sym (early-passes m s entry work e) ∙ t) .0 in
+      record { accepted = v; start = p .keeps; four-bytes = p .four; kind = kind-of (p .four) (p .kinds); room = p .room; some-front = front-of m s (facts m v) t15 }
 
   of-movable : Movable m s entry work → number ≡ 0
   unfolding moveTests entryTests frontTest

@@ -23,32 +23,29 @@ use Rattle.circuit.proofs.Moves.{entry-done}
 use Rattle.circuit.proofs.Trace.{run-found, run-spent, run-step}
 use Rattle.map.specs.Map.{gateCount, circuit}
 use Rattle.map.specs.Check.{firstFailed, mapTests}
-use Rattle.map.proofs.Laws.{past, no-test, none-failed, passed-before}
+use Rattle.map.proofs.Laws.{past, no-test}
 use Rattle.map.proofs.Accepted.{facts}
 use Rattle.map.proofs.Answers.{behind-accepted}
 use Rattle.map.proofs.Described.{tested, map-number}
 use Rattle.state.proofs.Meaning.{behind}
-use Rattle.survey.specs.Survey.{startTests}
-use Rattle.survey.proofs.Starts.{behind-start, start-of, of-start, start-number}
-use Rattle.tape.specs.Tape.{entries, tapeTest}
+use Rattle.survey.proofs.Starts.{behind-start, of-start, start-number}
+use Rattle.tape.specs.Tape.{mostTape, entries, tapeTest}
 use Rattle.search.specs.Run.{tapeTests, runTests, Told, told, ran, runningBy, running, Room, Runnable, RunAccepts, RunNumber, RunDeclines}
+use Rattle.search.proofs.Passed.{room-of, run-passed}
 use Rattle.search.proofs.Endings.{run-ends}
 use Rattle.demands.proofs.Tapes.{kinds-of, of-kinds}
 
 -- test 12
-length-of : (tape : List ℕ) → eqb (length tape % 4) 0 and leb (length tape) 65532 ≡ true → (length tape % 4 ≡ 0) × (length tape ≤ 65532)
+length-of : (tape : List ℕ) → eqb (length tape % 4) 0 and leb (length tape) mostTape ≡ true → (length tape % 4 ≡ 0) × (length tape ≤ mostTape)
 length-of tape e = (eqb-true _ _ (and-left _ _ e), leb-true _ _ (and-right _ _ e))
 
-of-length : (tape : List ℕ) → (length tape % 4 ≡ 0) × (length tape ≤ 65532) → eqb (length tape % 4) 0 and leb (length tape) 65532 ≡ true
+of-length : (tape : List ℕ) → (length tape % 4 ≡ 0) × (length tape ≤ mostTape) → eqb (length tape % 4) 0 and leb (length tape) mostTape ≡ true
 of-length tape p = and-both _ _ (eq-eqb _ _ (p .0)) (le-leb _ _ (p .1))
 
 -- test 14
 module _ (m work ans : List ℕ) where
   abbrev roomTest : Bool
   roomTest = leb (gateCount m) (length work) and leb (gateCount m) (length ans)
-
-  room-of : roomTest ≡ true → Room m work ans
-  room-of e = record { work-room = leb-true _ _ (and-left _ _ e); answer-room = leb-true _ _ (and-right _ _ e) }
 
   pub of-room : Room m work ans → roomTest ≡ true
   of-room r = and-both _ _ (le-leb _ _ (r .work-room)) (le-leb _ _ (r .answer-room))
@@ -87,21 +84,12 @@ module _ (m s tape work ans : List ℕ) where
 
   -- what each test says
   pub runnable : number ≡ 0 → Runnable m s tape work ans
-  unfolding runTests tapeTests tapeTest
+  unfolding tapeTest
   runnable n =
       let (v, t) = behind m (runTests m s tape work ans) n in
-      let k = passed-before (startTests m s) _ t in
-      let t12 = none-failed 11 _ _ (sym (behind-start m s _ k) ∙ t) in
-      let t13 = none-failed 12 _ _ (t12 .1) in
-      let (whole, few) = length-of tape (t12 .0) in
-      record {
-        accepted = v;
-        start = start-of m s k;
-        whole-entries = whole;
-        not-longer = few;
-        kinds = kinds-of tape whole (t13 .0);
-        room = room-of m work ans (none-failed 13 _ _ (t13 .1) .0);
-      }
+      let p = run-passed m s tape work ans t in
+      let (whole, few) = length-of tape (p .begins .whole) in
+      record { accepted = v; start = p .begins .keeps; whole-entries = whole; not-longer = few; kinds = kinds-of tape whole (p .kinds); room = p .room }
 
   pub of-runnable : Runnable m s tape work ans → number ≡ 0
   unfolding runTests tapeTests tapeTest

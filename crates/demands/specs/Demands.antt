@@ -11,7 +11,7 @@ use Rattle.circuit.specs.Tools.{isEmpty}
 use Rattle.circuit.specs.Survey.{front, survey, frontSize}
 use Rattle.circuit.specs.Source001.{DifferIs}
 use Rattle.circuit.specs.Promise.{Answered, config, Promised, Demand2OnCircuits}
-use Rattle.map.specs.Map.{gateCount, codeCount, codeGate, codeValue, circuit}
+use Rattle.map.specs.Map.{mostGates, gateCount, codeCount, codeGate, codeValue, circuit}
 use Rattle.map.specs.Check.{verdict, MapAccepts, CheckNumber, CheckAccepts, CheckDeclines, CheckSays, AcceptedMaps}
 use Rattle.map.specs.Children.{StretchIs}
 use Rattle.state.specs.State.{marking, EvaluateWrites, EvaluateAccepts, EvaluateNumber, EvaluateDeclines, MarkSays, MarkAccepts, MarkNumber, MarkDeclines}
@@ -84,7 +84,7 @@ pub record RunMeans (m s tape work ans : List ℕ) (r : Running) : Type 0 where
   pub entry-is : (d : Entry) (i : ℕ) → 4 * i < length tape → EntryRead tape (4 * i) (getD (entries tape) i d)
   pub promised : Promised (circuit m) s (entries tape) (config (circuit m) s (entries tape)) (record { outcome = r .outcome; last = r .configuration })
   pub told : r .told ≡ record { accepted = true; found = isEmpty (front (circuit m) (r .configuration)); number = 0; front = frontSize (circuit m) (r .configuration) }
-  pub bounds : (r .outcome .moves ≤ 16383) × ((r .outcome .flips ≤ 8 * r .outcome .moves) × (r .told .front ≤ 1024))
+  pub bounds : (r .outcome .moves ≤ 16383) × ((r .outcome .flips ≤ 8 * r .outcome .moves) × (r .told .front ≤ mostGates))
   pub surveyed : take (gateCount m) (r .work) ≡ survey (circuit m) (r .configuration)
   pub work-surplus : drop (gateCount m) (r .work) ≡ drop (gateCount m) work
   pub work-long : length (r .work) ≡ length work

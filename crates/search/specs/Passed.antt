@@ -6,7 +6,7 @@ use mathlib.Core.List.{List}
 use lib.ListN.{length}
 use Rattle.circuit.specs.Evaluate.{KeepsCodes}
 use Rattle.map.specs.Map.{gateCount, circuit}
-use Rattle.tape.specs.Tape.{tapeTest}
+use Rattle.tape.specs.Tape.{tapeTest, kindsTest}
 use Rattle.search.specs.Run.{Room}
 
 -- a run may begin
@@ -16,9 +16,11 @@ pub record Begins (m s tape : List ℕ) : Type 0 where
 
 pub record RunTested (m s tape work ans : List ℕ) : Type 0 where
   pub begins : Begins m s tape
+  pub kinds : kindsTest tape ≡ true
   pub room : Room m work ans
 
 pub record MoveTested (m s entry work : List ℕ) : Type 0 where
   pub keeps : KeepsCodes (circuit m) s
   pub four : length entry ≡ 4
+  pub kinds : kindsTest entry ≡ true
   pub room : gateCount m ≤ length work
