@@ -1,6 +1,6 @@
 -- The numbers that a host gets of Move and Run. antt computes them. Assumes nothing.
 use mathlib.Core.Path.{_≡_}
-use mathlib.Core.List.{List, [], _∷_, _++_}
+use mathlib.Core.List.{[], _∷_, _++_}
 use Rattle.circuit.specs.Bench.{A, B}
 use Rattle.map.specs.Bench.{adderBytes, four}
 use Rattle.state.specs.Bench.{memory}

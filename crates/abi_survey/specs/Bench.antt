@@ -1,6 +1,6 @@
 -- The numbers that a host gets of Survey. antt computes them. Assumes nothing.
 use mathlib.Core.Path.{_≡_}
-use mathlib.Core.List.{List, [], _∷_}
+use mathlib.Core.List.{[], _∷_}
 use lib.ListN.{take}
 use Rattle.circuit.specs.Bench.{A}
 use Rattle.map.specs.Bench.{adderBytes, twoCodesBytes, four}

@@ -1,16 +1,15 @@
 -- The front by its marks, and the gate that an entry draws. Assumes nothing.
 use Prim.Native.Nat.{ℕ, _+_, _*_, _<_, _≤_, _%_}
 use mathlib.Core.Path.{_≡_, refl, ap, _∙_}
-use mathlib.Core.Bool.{Bool, true, false, not, false≢true}
-use mathlib.Core.List.{List, [], _∷_, map}
-use native.Mathlib.Omega.{arith}
+use mathlib.Core.Bool.{Bool, true, false, false≢true}
+use mathlib.Core.List.{List, map}
 use lib.ListN.{length, getD}
 use lib.Dec.{eqb}
-use Rattle.circuit.specs.Tools.{byte, upTo, isEmpty}
+use Rattle.circuit.specs.Tools.{byte, upTo}
 use Rattle.circuit.specs.Circuit.{Circuit, WellFormed, justified}
 use Rattle.circuit.specs.Survey.{cone, inFront, front, frontSize}
 use Rattle.circuit.specs.Run.{drawn}
-use Rattle.circuit.proofs.Lists.{map-at, in-upTo, select-same, some-isEmpty}
+use Rattle.circuit.proofs.Lists.{map-at, in-upTo, select-same}
 use Rattle.circuit.proofs.Cone.{front-cone, in-front}
 use Rattle.circuit.proofs.Moves.{drawn-in}
 use Rattle.survey.specs.Marks.{coneMarks}

@@ -11,7 +11,6 @@ ghost use Rattle.circuit.specs.Tools.{byte};
 ghost use Rattle.circuit.specs.Gate.{kindOf};
 ghost use Rattle.circuit.specs.Circuit.{on};
 ghost use Rattle.circuit.specs.Run.{turn};
-ghost use Rattle.map.specs.Map.{fanIn};
 ghost use Rattle.kinds.specs.Kinds.{optionTurns};
 ghost use Rattle.map.specs.Check.{Counted};
 ghost use Rattle.steps.specs.Options.{optionsOf, optionGates};

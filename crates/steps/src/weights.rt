@@ -4,7 +4,7 @@ ghost use mathlib.Core.Logic.{_⊎_};
 ghost use Prim.Native.Nat.{_<_, _≤_};
 ghost use lib.ListN.{length, getD};
 ghost use lib.Dec.{eqb};
-ghost use Rattle.circuit.specs.Tools.{byte, upTo, select};
+ghost use Rattle.circuit.specs.Tools.{byte};
 ghost use Rattle.steps.specs.Options.{Least, equalTo, bestAt};
 
 fn smaller(a: u16, b: u16) -> u16

@@ -10,7 +10,6 @@ use Rattle.steps.specs.Options.{optionHas, optionUpTo}
 use denote.Ref.{now}
 use native.Mathlib.Omega.{arith}
 use mathlib.Core.Path.{_≡_, refl, ap, _∙_}
-use Rattle.circuit.specs.Run.{turn}
 use Rattle.steps.proofs.Flips.{flips-none, flips-zero, flips-count, flips-sees, flips-more}
 use borrow.Author.Needs.{needs}
 use Rattle.steps.proofs.options.flip_option.Statement.{statement}
