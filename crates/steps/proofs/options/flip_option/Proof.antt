@@ -1,6 +1,6 @@
 use Rattle.steps.specs.Steps.{Flipped}
-use Rattle.map.specs.Map.{fanIn}
-use Prim.Native.Nat.{_-_, _≤_}
+use Rattle.map.specs.Map.{gateCount, fanIn}
+use Prim.Native.Nat.{_-_, _<_, _≤_}
 use lib.ListN.{length}
 use Rattle.circuit.specs.Gate.{kindOf}
 use Rattle.circuit.specs.Circuit.{on}
@@ -35,7 +35,9 @@ loop-again : tie.Need-loop-again Inv-loop μ-loop
 loop-again c =
     let f : tie.After-flip-child Inv-loop μ-loop = search in
     let x : tie.After-kid Inv-loop μ-loop = search in
+    let b : tie.In-loop Inv-loop μ-loop = search in
     let l : tie.At-loop Inv-loop μ-loop = search in
+    let n : tie.After-fan-in Inv-loop μ-loop = search in
     let k : tie.After-kind Inv-loop μ-loop = search in
     let a : tie.Start Inv-loop μ-loop = search in
     let m = now (a .args .map) in
@@ -43,13 +45,15 @@ loop-again c =
     let g = a .args .g in
     let i = a .args .i in
     let j = l .loop .j in
+    let in-map : g < gateCount m = omega (arith, a .pre .1, a .pre .0 .gates) in
+    let in-fan : j < fanIn m g = omega (arith, b .loop-test, n .fan-in .ensures) in
     -- whether the option turns the child
     let h : optionTurns (kindOf (k .kind .result)) (on s g) i j (on (l .loop .s) (x .kid .result)) ≡ optionHas m s g i j =
-    rw (k .kind .ensures, x .kid .ensures .is, l .loop .inv .1 .0 .are) (flips-sees m s g i (a .pre .0 .is) (omega arith) j (omega arith)) in (
+    rw (k .kind .ensures, x .kid .ensures .is, l .loop .inv .1 .0 .are) (flips-sees m s g i (a .pre .0 .is) in-map j in-fan) in (
       omega arith,
       (
         record {
-          are = f .flip-child .ensures .0 ∙ rw (h, x .kid .ensures .is, l .loop .inv .1 .0 .are) (flips-more m s g i (a .pre .0 .is) (omega arith) j (omega arith));
+          are = f .flip-child .ensures .0 ∙ rw (h, x .kid .ensures .is, l .loop .inv .1 .0 .are) (flips-more m s g i (a .pre .0 .is) in-map j in-fan);
           counted = omega (arith, flips-count m s g i j, f .flip-child .ensures .1 .0 ∙ ap byte h, l .loop .inv .1 .0 .counted);
         },
         (omega arith, omega (arith, f .flip-child, l)),
