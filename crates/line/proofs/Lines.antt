@@ -15,7 +15,7 @@ use Rattle.map.proofs.Accepted.{facts}
 use Rattle.search.specs.Run.{running}
 use Rattle.search.proofs.Endings.{found-passes}
 use Rattle.line.specs.Text.{Wrote}
-use Rattle.line.specs.Line.{tapeAt, mapPart, configurationPart, tapePart, inputTest, lent, refusedLine, runLine, lineOf, inputOf, lineRoom, Printing, printed, printing}
+use Rattle.line.specs.Line.{mostInput, tapeAt, mapPart, configurationPart, tapePart, inputTest, lent, refusedLine, runLine, lineOf, inputOf, lineRoom, Printing, printed, printing}
 use Rattle.line.proofs.Writing.{wrote-over}
 
 -- what Found tells of the map
@@ -24,7 +24,7 @@ found-shaped m s tape work ans f = facts m (found-passes m s tape work ans f) .s
 
 -- what a whole input is
 pub record Whole (x : List ℕ) : Type 0 where
-  pub few : length x ≤ 65536
+  pub few : length x ≤ mostInput
   pub head : 6 ≤ length x
   pub exact : length x ≡ tapeAt x + u16At x 4
 
@@ -81,11 +81,11 @@ module _ (m s tape : List ℕ) where
   pub tape-part : tapePart x ≡ tape
   tape-part = rw (map-size, configuration-size, behind-configuration) (take-all (length x - (6 + length m + length s)) tape (omega (arith, input-size)))
 
-  pub parts-whole : 6 + length m + length s + length tape ≤ 65536 → inputTest x ≡ true
+  pub parts-whole : 6 + length m + length s + length tape ≤ mostInput → inputTest x ≡ true
   unfolding inputTest
   parts-whole h =
       let e : length x ≡ tapeAt x + u16At x 4 = omega (arith, input-size, map-size, configuration-size, tape-size) in
-      and-both _ _ (le-leb (length x) 65536 (rw input-size h)) (eq-eqb _ _ e)
+      and-both _ _ (le-leb (length x) mostInput (rw input-size h)) (eq-eqb _ _ e)
 
 -- ---- the call
 

@@ -1,4 +1,4 @@
--- Document 01's program: from the bytes of standard input to the line that it prints. Assumes nothing.
+-- Document 01's program: from the bytes of standard input to the line that it prints. What it means is proved in `demands`. Assumes nothing.
 use Prim.Native.Nat.{ℕ, zero, suc, _+_, _-_, _/_, _%_, _<_, _≤_}
 use mathlib.Core.Path.{_≡_}
 use mathlib.Core.Bool.{Bool, cond}

@@ -19,7 +19,7 @@ use Rattle.circuit.proofs.Lists.{map-at}
 use Rattle.circuit.proofs.Values.{on-byte, bit-byte}
 use Rattle.circuit.proofs.Survey.{lists-set}
 use Rattle.circuit.proofs.Source001.{gate-zero}
-use Rattle.map.specs.Map.{gateCount, codeCount, kindByte, fanIn, childAt, codeGate, kidsOf, circuit}
+use Rattle.map.specs.Map.{mostGates, gateCount, codeCount, kindByte, fanIn, childAt, codeGate, kidsOf, circuit}
 use Rattle.kinds.specs.Kinds.{kindFits}
 use Rattle.map.specs.Check.{offsetsTest, kindTest, positionTest, positionsTest, childTest, childrenTest, codeTest, freeTest, firstFailed, contentsTests, bodiesTests, mapTests, verdict, checked, Laid, Summed, Ordered, CodesAllowed, Described, MapAccepts, Test, passes, fails, MapNumber, CheckNumber, CheckAccepts, CheckSays, CheckDeclines, AcceptedMaps}
 use Rattle.kinds.proofs.Bytes.{gate-kind}
@@ -76,12 +76,12 @@ kind-is (suc (suc (suc (suc (suc k))))) n a = absurd a
 
 module _ (m : List ℕ) where
   abbrev Few : Type 0
-  Few = (1 ≤ gateCount m) × (gateCount m ≤ 1024)
+  Few = (1 ≤ gateCount m) × (gateCount m ≤ mostGates)
 
-  few : leb 1 (gateCount m) and leb (gateCount m) 1024 ≡ true → Few
+  few : leb 1 (gateCount m) and leb (gateCount m) mostGates ≡ true → Few
   few e = (leb-true _ _ (and-left _ _ e), leb-true _ _ (and-right _ _ e))
 
-  of-few : Few → leb 1 (gateCount m) and leb (gateCount m) 1024 ≡ true
+  of-few : Few → leb 1 (gateCount m) and leb (gateCount m) mostGates ≡ true
   of-few p = and-both _ _ (le-leb _ _ (p .0)) (le-leb _ _ (p .1))
 
   laid : offsetsTest m ≡ true → Laid m

@@ -1,4 +1,4 @@
--- Document 01's Move, on bytes. Assumes nothing.
+-- Document 01's Move, on bytes. What it means is proved in `demands`. Assumes nothing.
 use Prim.Native.Nat.{ℕ, _≤_}
 use mathlib.Core.Path.{_≡_}
 use mathlib.Core.Logic.{_↔_}

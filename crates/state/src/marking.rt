@@ -5,13 +5,13 @@ use super::values;
 use map::Counts;
 use map::decode;
 ghost use mathlib.Core.Path.{_≡_};
-ghost use Prim.Native.Nat.{_+_, _*_, _<_, _≤_};
+ghost use Prim.Native.Nat.{_<_, _≤_};
 ghost use lib.ListN.{length, getD};
 ghost use lib.Dec.{eqb};
 ghost use Rattle.folds.specs.Folds.{allBelow};
 ghost use Rattle.circuit.specs.Circuit.{justified};
-ghost use Rattle.map.specs.Map.{gateCount, codeCount, codesAt, codeGate, codeValue, circuit};
-ghost use Rattle.map.specs.Check.{IsMap, Counted};
+ghost use Rattle.map.specs.Map.{gateCount, codesAt, codeGate, codeValue, circuit};
+ghost use Rattle.map.specs.Check.{Counted};
 ghost use Rattle.state.specs.State.{tells, configurationMarking, shownByRecord};
 
 // Is every gate an input, or do its children give its value?
@@ -32,8 +32,9 @@ fn gates_right(map: &[u8], counts: Counts, s: &[u8]) -> bool
 }
 
 // Does the gate of code r have its value?
-fn code_shown(map: &[u8], start: usize, r: usize, s: &[u8]) -> bool
-    requires { ⌜ IsMap (now map) × ((start ≡ codesAt (now map)) × ((r < codeCount (now map)) × (gateCount (now map) ≤ length (now s)))) ⌝ }
+fn code_shown(map: &[u8], counts: Counts, start: usize, r: usize, s: &[u8]) -> bool
+    requires { ⌜ Counted (now map) counts ⌝ }
+    requires { ⌜ (start ≡ codesAt (now map)) × ((r < counts .codes) × (counts .gates ≤ length (now s))) ⌝ }
     ensures { λ r'. ⌜ r' ≡ eqb (getD (now (s .entry)) (codeGate (now (map .entry)) r) 0) (codeValue (now (map .entry)) r) ⌝ }
 {
     let x = decode::code_gate(map, start, r);
@@ -50,7 +51,7 @@ pub fn codes_shown(map: &[u8], counts: Counts, s: &[u8]) -> bool
     let codes = counts.codes;
     let mut r = 0;
     while r < codes {
-        if !code_shown(map, start, r, s) {
+        if !code_shown(map, counts, start, r, s) {
             return false;
         }
         r += 1;

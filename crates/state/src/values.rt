@@ -6,7 +6,7 @@ use map::decode;
 ghost use mathlib.Core.Path.{_≡_};
 ghost use mathlib.Core.Logic.{_⊎_};
 ghost use mathlib.Core.Bool.{cond};
-ghost use Prim.Native.Nat.{_+_, _<_, _≤_};
+ghost use Prim.Native.Nat.{_<_, _≤_};
 ghost use lib.ListN.{length};
 ghost use Rattle.circuit.specs.Tools.{byte};
 ghost use Rattle.circuit.specs.Gate.{kindOf, isInput};

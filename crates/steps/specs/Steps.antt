@@ -22,7 +22,7 @@ pub record Space (gates : ℕ) (s trial scratch : List ℕ) : Type 0 where
   pub for-trial : gates ≡ length trial
   pub for-scratch : gates ≡ length scratch
 
--- both: all that an entry works with beside the marks
+-- marks of the codes, and this space: all that an entry works with beside the marks of cone and front
 pub record Workspace (m : List ℕ) (gates : ℕ) (coded s trial scratch : List ℕ) : Type 0 where
   pub codes : CodesMarked m coded
   pub space : Space gates s trial scratch

@@ -14,7 +14,7 @@ ghost use Rattle.circuit.specs.declared.Choice.the-variants.{Up};
 ghost use Rattle.circuit.specs.Run.{optionAt, chosen};
 ghost use Rattle.map.specs.Map.{circuit};
 ghost use Rattle.map.specs.Check.{Counted};
-ghost use Rattle.survey.specs.Marks.{Shown};
+ghost use Rattle.survey.specs.Marks.{MarksOf};
 ghost use Rattle.steps.specs.Steps.{CodesMarked, Workspace, Drawable, Flipped, Did};
 
 // Turns the option of gate g that stands at i modulo their number. Returns how many values.
@@ -80,7 +80,7 @@ pub fn entry(
 ) -> Turn
     requires { ⌜ Counted (now map) counts ⌝ }
     requires { ⌜ Workspace (now map) (counts .gates) (now coded) (now s) (now trial) (now scratch) ⌝ }
-    requires { ⌜ Shown (circuit (now map)) (now s) (now marks) front × (1 ≤ front) ⌝ }
+    requires { ⌜ MarksOf (circuit (now map)) (now s) (now marks) front × (1 ≤ front) ⌝ }
     ensures { λ r. ⌜ Did (circuit (now (map .entry))) (now (s .entry)) e r (now (s .exit)) ⌝ }
 {
     let draw = e.draw;
@@ -94,7 +94,7 @@ pub fn entry(
 pub fn settle(map: &[u8], counts: Counts, s: &[u8], marks: &mut [u8]) -> u16
     requires { ⌜ Counted (now map) counts ⌝ }
     requires { ⌜ (counts .gates ≤ length (now s)) × (counts .gates ≡ length (now marks)) ⌝ }
-    ensures { λ r. ⌜ Shown (circuit (now (map .entry))) (now (s .entry)) (now (marks .exit)) r ⌝ }
+    ensures { λ r. ⌜ MarksOf (circuit (now (map .entry))) (now (s .entry)) (now (marks .exit)) r ⌝ }
 {
     cone::mark(map, counts, s, marks)
 }

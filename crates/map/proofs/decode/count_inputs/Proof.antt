@@ -10,6 +10,7 @@ use Rattle.map.proofs.decode.count_inputs.Statement.{statement}
 use Rattle.map.proofs.decode.count_inputs.Tie as tie
 use Rattle.map.proofs.decode.count_inputs.Reads as reads
 use Rattle.map.proofs.decode.count_inputs.Lts as lts
+use Rattle.map.proofs.decode.kind.Reads as kind-reads
 use Rattle.kinds.proofs.input_bit.Reads as input-bit-reads
 
 abbrev Inv-loop : tie.InvT-loop
@@ -34,9 +35,7 @@ count-inputs-spec =
     Inv-loop
     μ-loop
     loop-holds
-    (λ c. search needs)
-    (λ c. search needs)
-    (λ c. search needs)
+    (λ c κs. search needs)
     (λ c κs. search needs)
     (λ c. search needs)
     (λ c. search needs)

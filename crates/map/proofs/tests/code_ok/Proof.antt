@@ -17,7 +17,7 @@ module _ (c : tie.After-code-gate) where
   s = search
 
   by-reads : codeTest (now (s .args .map)) (s .args .r) ≡ codeTestBy (now (s .args .map)) (s .args .n .gates) (s .args .start) (s .args .r) (c .code-gate .result)
-  by-reads = code-test _ _ _ _ _ (s .pre .0 .gates .0) (s .pre .1 .1 .0) (c .code-gate .ensures .0)
+  by-reads = code-test _ _ _ _ _ (s .pre .0 .gates) (s .pre .1 .1 .0) (c .code-gate .ensures .0)
 
 returns : tie.Need-returns
 returns c = rw (by-reads (search)) (search (bools, flags))

@@ -27,20 +27,20 @@ unfolding contentsTests
 returns c =
     let s : tie.Start = search in
     let h : s .args .n .gates < 1 = omega arith in
-    sym (to-2 s ∙ stop _ _ _ (rw (← s .pre .1 .gates .0) (and-first-false _ _ (lt-leb 1 _ h))))
+    sym (to-2 s ∙ stop _ _ _ (rw (← s .pre .1 .gates) (and-first-false _ _ (lt-leb 1 _ h))))
 
 returns-2 : tie.Need-returns-2
 unfolding contentsTests
 returns-2 c =
     let s : tie.Start = search in
-    sym (to-2 s ∙ stop _ _ _ (rw (← s .pre .1 .gates .0) (and-second-false _ _ (lt-leb _ _ (c .if2 .taken)))))
+    sym (to-2 s ∙ stop _ _ _ (rw (← s .pre .1 .gates) (and-second-false _ _ (lt-leb _ _ (c .if2 .taken)))))
 
 to-3 : (c : tie.Else2) → let s : tie.Start = search in from 0 s ≡ from 2 s
 unfolding contentsTests
 to-3 c =
     let s : tie.Start = search in
     let h : 1 ≤ s .args .n .gates = omega arith in
-    to-2 s ∙ past _ _ _ (rw (← s .pre .1 .gates .0) (and-both _ _ (le-leb 1 _ h) (le-leb _ _ (c .if2 .left))))
+    to-2 s ∙ past _ _ _ (rw (← s .pre .1 .gates) (and-both _ _ (le-leb 1 _ h) (le-leb _ _ (c .if2 .left))))
 
 returns-3 : tie.Need-returns-3
 unfolding contentsTests

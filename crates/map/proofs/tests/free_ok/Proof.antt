@@ -11,7 +11,7 @@ use Rattle.map.proofs.decode.mark_codes.Reads as mark-codes-reads
 mark-codes-requires : tie.Need-mark-codes-requires
 mark-codes-requires c κs =
     let s : tie.Start = search in
-    ((s .pre .1 .0, (s .pre .1 .1, s .pre .0 .codes .0)), (search needs, marks-none _ mostGates))
+    ((s .pre .1 .0, (s .pre .1 .1, s .pre .0 .codes)), (search needs, marks-none _ mostGates))
 
 all-free-requires : tie.Need-all-free-requires
 all-free-requires c κs =

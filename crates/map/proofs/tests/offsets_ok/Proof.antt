@@ -44,7 +44,7 @@ returns-4 c =
     let w2 : tie.After-word2 = search in
     let w1 : tie.After-word = search in
     let s : tie.Start = search in
-    rw (← w1 .word .ensures .0, ← w2 .word2 .ensures .0, ← w3 .word3 .ensures .0, ← codes-at (search), ← children-at (search), ← s .pre .1 .codes .0) (search bools)
+    rw (← w1 .word .ensures .0, ← w2 .word2 .ensures .0, ← w3 .word3 .ensures .0, ← codes-at (search), ← children-at (search), ← s .pre .1 .codes) (search bools)
 
 pub offsets-ok-spec : {M : Type 1} → statement M
 offsets-ok-spec =

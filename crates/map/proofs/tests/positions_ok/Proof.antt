@@ -52,7 +52,7 @@ returns-2 c =
     let l : tie.At-loop Inv-loop μ-loop = search in
     let s : tie.Start Inv-loop μ-loop = search in
     let e : l .loop .g ≡ gateCount (now (s .args .map)) = omega arith in
-    sym (and-past _ _ (rw (← e) (l .loop .inv .1 .0)) ∙ rw (← e, l .loop .inv .1 .1 .0, s .pre .0 .children .0))
+    sym (and-past _ _ (rw (← e) (l .loop .inv .1 .0)) ∙ rw (← e, l .loop .inv .1 .1 .0, s .pre .0 .children))
 
 pub positions-ok-spec : {M : Type 1} → statement M
 positions-ok-spec =

@@ -7,7 +7,7 @@ use Rattle.state.proofs.marking.code_shown.Lts as lts
 use Rattle.map.proofs.decode.code_gate.Reads as code-gate-reads
 
 shared-slice-read-result : tie.Need-shared-slice-read-result
-shared-slice-read-result c = let s : tie.Start = search in omega (arith, s .pre .0 .sound .coded-gate (s .args .r) (s .pre .1 .1 .0))
+shared-slice-read-result c = let s : tie.Start = search in omega (arith, s .pre .0 .is .sound .coded-gate (s .args .r) (omega (arith, s .pre .0 .codes)), s .pre .0 .gates)
 
 returns : tie.Need-returns
 returns c =

@@ -18,16 +18,16 @@ use Rattle.state.proofs.marking.code_shown.Reads as code-shown-reads
 use Rattle.map.proofs.decode.codes_start.Reads as codes-start-reads
 
 abbrev Inv-loop : tie.InvT-loop
-Inv-loop map s start codes r₀ r = (r ≤ codes) × (allBelow r (λ i. eqb (getD s (codeGate map i) 0) (codeValue map i)) ≡ true)
+Inv-loop map counts s start codes r₀ r = (r ≤ codes) × (allBelow r (λ i. eqb (getD s (codeGate map i) 0) (codeValue map i)) ≡ true)
 
 abbrev μ-loop : tie.MeasureT-loop
-μ-loop map s start codes r₀ r = codes - r
+μ-loop map counts s start codes r₀ r = codes - r
 
 code-shown-requires : tie.Need-code-shown-requires Inv-loop μ-loop
 code-shown-requires c κs =
     let k : tie.After-codes-start Inv-loop μ-loop = search in
     let s : tie.Start Inv-loop μ-loop = search in
-    (s .pre .0 .is, (k .codes-start .ensures, (omega (arith, s .pre .0 .codes), omega (arith, s .pre .0 .gates))))
+    (s .pre .0, (k .codes-start .ensures, (search needs, s .pre .1)))
 
 returns : tie.Need-returns Inv-loop μ-loop
 unfolding shownByRecord
