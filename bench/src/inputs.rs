@@ -6,8 +6,9 @@ use crate::random::Random;
 
 pub const SIZES: [usize; 3] = [64, 256, 1024];
 
-/// The maps of each size have this many gates together. That is more than a processor learns the branches of, so that every call meets its map anew.
-pub const GATES_PER_SIZE: usize = 16_384;
+/// The maps of each size have this many gates together. That is more than a processor learns the branches of, so that every call meets its map anew. (Of an
+/// eighth of it a processor learns some, and how many depends on where code stands: rows then differ by a tenth from run to run.)
+pub const GATES_PER_SIZE: usize = 131_072;
 
 /// So many of them are run.
 pub const RUN_MAPS: usize = 5;

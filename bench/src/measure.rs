@@ -44,20 +44,17 @@ fn time_run(engine: &Engine, input: &Input, lent: &mut Lent) -> Duration {
     begin.elapsed()
 }
 
-/// One slice of time is a few calls on each map in turn. These calls change nothing that they read, so nothing is put back.
+/// One slice of time is a call on each map in turn. These calls change nothing that they read, so nothing is put back.
 fn per_call(group: &[Input], call: Call) -> Times {
-    const REPEATS: usize = 4;
     let mut all: Vec<Lent> = group.iter().map(|input| input.lent(Tape::DownUp)).collect();
     let least = least_times(|engine| {
         let begin = Instant::now();
-        for _ in 0..REPEATS {
-            for lent in &mut all {
-                lent.call(engine, call);
-            }
+        for lent in &mut all {
+            lent.call(engine, call);
         }
         begin.elapsed()
     });
-    least.map(|time| time / (REPEATS * group.len()) as f64)
+    least.map(|time| time / group.len() as f64)
 }
 
 /// The least nanoseconds of each engine over all rounds: the work is the same each time, and whatever else runs meanwhile only adds to it. The
