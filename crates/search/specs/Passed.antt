@@ -6,13 +6,9 @@ use mathlib.Core.List.{List}
 use lib.ListN.{length}
 use Rattle.circuit.specs.Evaluate.{KeepsCodes}
 use Rattle.map.specs.Map.{gateCount, circuit}
-use Rattle.tape.specs.Tape.{tapeTest, kindsTest}
+use Rattle.tape.specs.Tape.{kindsTest}
+use Rattle.progress.specs.Advance.{Begins}
 use Rattle.search.specs.Run.{Room}
-
--- a run may begin
-pub record Begins (m s tape : List ℕ) : Type 0 where
-  pub keeps : KeepsCodes (circuit m) s
-  pub whole : tapeTest tape ≡ true
 
 pub record RunTested (m s tape work ans : List ℕ) : Type 0 where
   pub begins : Begins m s tape
