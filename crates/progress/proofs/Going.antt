@@ -24,7 +24,7 @@ use Rattle.tape.specs.Tape.{entryAt, entriesFrom, entries, tapeTest, stepAt}
 use Rattle.progress.specs.Advance.{adds, Going, Ends}
 use Rattle.tape.specs.declared.Step.the-variants.{Next, End}
 use Rattle.tape.proofs.Reading.{step-has, step-over}
-use Rattle.survey.proofs.Marked.{front-some, front-none}
+use Rattle.marks.proofs.Marked.{front-some, front-none}
 
 adds-none : (r : Ended) → adds 0 0 r ≡ r
 adds-none r = rw (zero-add (r .outcome .moves), zero-add (r .outcome .flips))

@@ -2,8 +2,8 @@
 use circuit::Ending;
 use circuit::Outcome;
 use map::Counts;
+use marks::cone;
 use steps::step;
-use survey::cone;
 use tape::Step;
 ghost use mathlib.Core.Path.{_≡_};
 ghost use lib.ListN.{length};

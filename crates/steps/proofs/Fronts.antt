@@ -12,9 +12,9 @@ use Rattle.circuit.specs.Run.{drawn}
 use Rattle.circuit.proofs.Lists.{map-at, in-upTo, select-same}
 use Rattle.circuit.proofs.Cone.{front-cone, in-front}
 use Rattle.circuit.proofs.Moves.{drawn-in}
-use Rattle.survey.specs.Marks.{coneMarks}
-use Rattle.survey.proofs.Tables.{length-table}
-use Rattle.survey.proofs.Marked.{front-some}
+use Rattle.marks.specs.Marks.{coneMarks}
+use Rattle.marks.proofs.Tables.{length-table}
+use Rattle.marks.proofs.Marked.{front-some}
 use Rattle.steps.specs.Options.{frontBy}
 
 -- 3 is the mark of the front

@@ -6,7 +6,7 @@ use super::options;
 use circuit::Choice;
 use circuit::Entry;
 use map::Counts;
-use survey::cone;
+use marks::cone;
 ghost use mathlib.Core.Path.{_≡_};
 ghost use Prim.Native.Nat.{_≤_};
 ghost use lib.ListN.{length};
@@ -14,7 +14,7 @@ ghost use Rattle.circuit.specs.declared.Choice.the-variants.{Up};
 ghost use Rattle.circuit.specs.Run.{optionAt, chosen};
 ghost use Rattle.map.specs.Map.{circuit};
 ghost use Rattle.map.specs.Check.{Counted};
-ghost use Rattle.survey.specs.Marks.{MarksOf};
+ghost use Rattle.marks.specs.Marks.{MarksOf};
 ghost use Rattle.steps.specs.Steps.{CodesMarked, Workspace, Drawable, Flipped, Did};
 
 // Turns the option of gate g that stands at i modulo their number. Returns how many values.

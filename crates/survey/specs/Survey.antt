@@ -8,13 +8,14 @@ use lib.ListN.{length, getD, drop}
 use lib.Dec.{eqb, leb}
 use Rattle.folds.specs.Folds.{allBelow}
 use Rattle.circuit.specs.Tools.{byte}
-use Rattle.circuit.specs.Circuit.{on}
+use Rattle.circuit.specs.Circuit.{Circuit, on}
 use Rattle.circuit.specs.Evaluate.{showsCode, KeepsCodes}
 use Rattle.circuit.specs.Survey.{survey, frontSize, interestSize}
 use Rattle.circuit.specs.Source001.{Cone, Front, Interesting, Size}
 use Rattle.map.specs.Map.{gateCount, codeCount, codeGate, codeValue, circuit}
 use Rattle.map.specs.Check.{firstFailed, mapTests, verdict, Test, MapNumber}
 use Rattle.state.specs.State.{configurationTests, ConfigurationNumber, over}
+use Rattle.survey.specs.declared.Sizes.{Sizes}
 use Rattle.survey.specs.declared.Surveyed.{Surveyed}
 use Rattle.survey.specs.declared.Surveyed.the-variants.{Done, Refused}
 
@@ -110,6 +111,12 @@ abbrev pub SurveyDeclines : Type 0
 SurveyDeclines = (m s out : List ℕ) → surveying m s out .accepted ≡ false → SurveyDeclined out (surveying m s out)
 
 -- ---- for inner functions
+
+-- bytes that are the survey of s, beside its sizes
+pub record SurveyOf (c : Circuit) (s bytes : List ℕ) (sizes : Sizes) : Type 0 where
+  pub are : bytes ≡ survey c s
+  pub front-is : sizes .front ≡ frontSize c s
+  pub interest-is : sizes .interest ≡ interestSize c s
 
 -- Survey behind the map's tests
 unfoldable pub configurationSurveying : List ℕ → List ℕ → List ℕ → Surveying

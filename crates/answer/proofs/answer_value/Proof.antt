@@ -8,7 +8,7 @@ use Rattle.circuit.specs.Gate.{isInput, kindOf}
 use Rattle.circuit.specs.Circuit.{on}
 use Rattle.map.specs.Map.{kindByte, circuit}
 use Rattle.kinds.proofs.Bytes.{input-kind, gate-kind}
-use Rattle.survey.proofs.Marked.{marks-length, cone-by}
+use Rattle.marks.proofs.Marked.{marks-length, cone-by}
 use borrow.Author.Needs.{needs}
 use Rattle.answer.proofs.answer_value.Statement.{statement}
 use Rattle.answer.proofs.answer_value.Tie as tie

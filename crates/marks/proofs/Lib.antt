@@ -1,0 +1,5 @@
+pub mod Tables
+pub mod Pass
+pub mod ConePass
+pub mod InterestPass
+pub mod Marked

@@ -1,0 +1,3 @@
+// The marks of a survey: a pass for the cone and the front, and one for the interest set.
+pub mod cone;
+pub mod interest;
