@@ -21,8 +21,9 @@ use Rattle.map.specs.Check.{IsMap}
 use Rattle.map.proofs.Accepted.{well-formed}
 use Rattle.kinds.proofs.ByPlace.{options-by}
 use Rattle.state.proofs.Filling.{store}
-use Rattle.steps.proofs.Best.{some-best, best-below}
-use Rattle.steps.specs.Options.{optionsOf, optionHas, optionUpTo, optionGates, bests, bestAt, weightsOf, interestAfter}
+use Rattle.picks.specs.Picks.{bests, bestAt}
+use Rattle.picks.proofs.Best.{some-best, best-below}
+use Rattle.steps.specs.Options.{optionsOf, optionHas, optionUpTo, optionGates, weightsOf, interestAfter}
 
 -- ---- lists of images
 

@@ -15,7 +15,7 @@ use Rattle.circuit.proofs.Moves.{drawn-in}
 use Rattle.marks.specs.Marks.{coneMarks}
 use Rattle.marks.proofs.Tables.{length-table}
 use Rattle.marks.proofs.Marked.{front-some}
-use Rattle.steps.specs.Options.{frontBy}
+use Rattle.picks.specs.Picks.{frontBy}
 
 -- 3 is the mark of the front
 three : (k f : Bool) → (f ≡ true → k ≡ true) → eqb (byte k + 2 * byte f) 3 ≡ f

@@ -1,7 +1,7 @@
 // Greedy choices: the option with the smallest interest set after the move.
 use super::options;
-use super::weights;
 use map::Counts;
+use picks::weights;
 use survey::writing;
 ghost use mathlib.Core.Path.{_≡_};
 ghost use mathlib.Core.List.{_++_};

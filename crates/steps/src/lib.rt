@@ -1,9 +1,7 @@
 // What an entry of a tape does: the gate it draws, that gate's options, and the values it turns.
-mod draw;
 mod greedy;
 mod options;
 pub mod step;
-mod weights;
 
 // The gate that an entry drew, and how many values it turned.
 pub struct Turn {

@@ -1,12 +1,12 @@
 // What an entry does.
 use super::Turn;
-use super::draw;
 use super::greedy;
 use super::options;
 use circuit::Choice;
 use circuit::Entry;
 use map::Counts;
 use marks::cone;
+use picks::draw;
 ghost use mathlib.Core.Path.{_≡_};
 ghost use Prim.Native.Nat.{_≤_};
 ghost use lib.ListN.{length};

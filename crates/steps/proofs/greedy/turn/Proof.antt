@@ -11,7 +11,7 @@ use Rattle.steps.proofs.greedy.turn.Lts as lts
 use Rattle.steps.proofs.greedy.weigh_all.Reads as weigh-all-reads
 use Rattle.steps.proofs.options.count.Reads as count-reads
 use Rattle.steps.proofs.options.flip_option.Reads as flip-option-reads
-use Rattle.steps.proofs.weights.best.Reads as best-reads
+use Rattle.picks.proofs.weights.best.Reads as best-reads
 
 -- how many options there are
 few : (c : tie.After-count) → (1 ≤ c .count .result) × (c .count .result ≤ 8)

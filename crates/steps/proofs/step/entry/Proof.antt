@@ -13,8 +13,8 @@ use Rattle.steps.proofs.step.entry.Statement.{statement}
 use Rattle.steps.proofs.step.entry.Tie as tie
 use Rattle.steps.proofs.step.entry.Reads as reads
 use Rattle.steps.proofs.step.entry.Lts as lts
-use Rattle.steps.proofs.draw.drawn.Reads as drawn-reads
-use Rattle.steps.proofs.draw.place.Reads as place-reads
+use Rattle.picks.proofs.draw.drawn.Reads as drawn-reads
+use Rattle.picks.proofs.draw.place.Reads as place-reads
 use Rattle.steps.proofs.step.turn_chosen.Reads as turn-chosen-reads
 
 -- the gate that was found is the one drawn, and isn't justified

@@ -5,14 +5,14 @@ use mathlib.Core.Path.{_≡_}
 use lib.ListN.{length, getD}
 use lib.Dec.{eqb}
 use Rattle.circuit.specs.Tools.{upTo, select}
-use Rattle.steps.specs.Options.{frontBy}
-use Rattle.steps.proofs.Places.{found-at, passed-at, none-left}
+use Rattle.picks.specs.Picks.{frontBy}
+use Rattle.picks.proofs.Places.{found-at, passed-at, none-left}
 use borrow.Author.Needs.{needs}
-use Rattle.steps.proofs.draw.drawn.Statement.{statement}
-use Rattle.steps.proofs.draw.drawn.Tie as tie
-use Rattle.steps.proofs.draw.drawn.Reads as reads
-use Rattle.steps.proofs.draw.drawn.Lts as lts
-use Rattle.steps.proofs.draw.front_bit.Reads as front-bit-reads
+use Rattle.picks.proofs.draw.drawn.Statement.{statement}
+use Rattle.picks.proofs.draw.drawn.Tie as tie
+use Rattle.picks.proofs.draw.drawn.Reads as reads
+use Rattle.picks.proofs.draw.drawn.Lts as lts
+use Rattle.picks.proofs.draw.front_bit.Reads as front-bit-reads
 
 abbrev Inv-loop : tie.InvT-loop
 Inv-loop marks k n left₀ g₀ left g = (g ≤ n) × (left + length (select (λ x. eqb (getD marks x 0) 3) (upTo g)) ≡ k)

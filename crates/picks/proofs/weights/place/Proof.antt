@@ -5,14 +5,14 @@ use mathlib.Core.Path.{_≡_}
 use lib.ListN.{length, getD}
 use lib.Dec.{eqb}
 use Rattle.circuit.specs.Tools.{upTo, select}
-use Rattle.steps.specs.Options.{equalTo}
-use Rattle.steps.proofs.Places.{found-at, passed-at, none-left}
+use Rattle.picks.specs.Picks.{equalTo}
+use Rattle.picks.proofs.Places.{found-at, passed-at, none-left}
 use borrow.Author.Needs.{needs}
-use Rattle.steps.proofs.weights.place.Statement.{statement}
-use Rattle.steps.proofs.weights.place.Tie as tie
-use Rattle.steps.proofs.weights.place.Reads as reads
-use Rattle.steps.proofs.weights.place.Lts as lts
-use Rattle.steps.proofs.weights.equal_bit.Reads as equal-bit-reads
+use Rattle.picks.proofs.weights.place.Statement.{statement}
+use Rattle.picks.proofs.weights.place.Tie as tie
+use Rattle.picks.proofs.weights.place.Reads as reads
+use Rattle.picks.proofs.weights.place.Lts as lts
+use Rattle.picks.proofs.weights.equal_bit.Reads as equal-bit-reads
 
 abbrev Inv-loop : tie.InvT-loop
 Inv-loop weights n w k left₀ j₀ left j = (j ≤ n) × (left + length (select (λ x. eqb (getD weights x 0) w) (upTo j)) ≡ k)

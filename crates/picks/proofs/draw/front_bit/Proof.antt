@@ -1,9 +1,9 @@
 use native.Mathlib.Omega.{arith}
 use borrow.Author.Tests.{eq-eqb, ne-eqb}
-use Rattle.steps.proofs.draw.front_bit.Statement.{statement}
-use Rattle.steps.proofs.draw.front_bit.Tie as tie
-use Rattle.steps.proofs.draw.front_bit.Reads as reads
-use Rattle.steps.proofs.draw.front_bit.Lts as lts
+use Rattle.picks.proofs.draw.front_bit.Statement.{statement}
+use Rattle.picks.proofs.draw.front_bit.Tie as tie
+use Rattle.picks.proofs.draw.front_bit.Reads as reads
+use Rattle.picks.proofs.draw.front_bit.Lts as lts
 
 returns : tie.Need-returns
 returns c = (rw (eq-eqb _ 3 (c .if1 .taken)), omega arith)

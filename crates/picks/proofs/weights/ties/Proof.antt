@@ -6,13 +6,13 @@ use lib.ListN.{length, getD}
 use lib.Dec.{eqb}
 use Rattle.circuit.specs.Tools.{upTo, select}
 use Rattle.circuit.proofs.Lists.{place-more}
-use Rattle.steps.specs.Options.{equalTo}
+use Rattle.picks.specs.Picks.{equalTo}
 use borrow.Author.Needs.{needs}
-use Rattle.steps.proofs.weights.ties.Statement.{statement}
-use Rattle.steps.proofs.weights.ties.Tie as tie
-use Rattle.steps.proofs.weights.ties.Reads as reads
-use Rattle.steps.proofs.weights.ties.Lts as lts
-use Rattle.steps.proofs.weights.equal_bit.Reads as equal-bit-reads
+use Rattle.picks.proofs.weights.ties.Statement.{statement}
+use Rattle.picks.proofs.weights.ties.Tie as tie
+use Rattle.picks.proofs.weights.ties.Reads as reads
+use Rattle.picks.proofs.weights.ties.Lts as lts
+use Rattle.picks.proofs.weights.equal_bit.Reads as equal-bit-reads
 
 abbrev Inv-loop : tie.InvT-loop
 Inv-loop weights n w count₀ j₀ count j = (j ≤ n) × ((count ≡ length (select (λ x. eqb (getD weights x 0) w) (upTo j))) × (count ≤ j))

@@ -4,7 +4,7 @@ ghost use Prim.Native.Nat.{_<_, _≤_, _%_};
 ghost use lib.ListN.{length, getD};
 ghost use lib.Dec.{eqb};
 ghost use Rattle.circuit.specs.Tools.{byte};
-ghost use Rattle.steps.specs.Options.{frontBy};
+ghost use Rattle.picks.specs.Picks.{frontBy};
 
 // 1 for the mark of a gate in the front, else 0.
 fn front_bit(b: u8) -> usize

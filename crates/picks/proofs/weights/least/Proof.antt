@@ -1,14 +1,14 @@
 use native.Mathlib.Omega.{arith}
 use Prim.Native.Nat.{_-_, _≤_}
 use mathlib.Core.Path.{_≡_}
-use Rattle.steps.specs.Options.{Least}
-use Rattle.steps.proofs.Best.{least-one, least-more}
+use Rattle.picks.specs.Picks.{Least}
+use Rattle.picks.proofs.Best.{least-one, least-more}
 use borrow.Author.Needs.{needs}
-use Rattle.steps.proofs.weights.least.Statement.{statement}
-use Rattle.steps.proofs.weights.least.Tie as tie
-use Rattle.steps.proofs.weights.least.Reads as reads
-use Rattle.steps.proofs.weights.least.Lts as lts
-use Rattle.steps.proofs.weights.smaller.Reads as smaller-reads
+use Rattle.picks.proofs.weights.least.Statement.{statement}
+use Rattle.picks.proofs.weights.least.Tie as tie
+use Rattle.picks.proofs.weights.least.Reads as reads
+use Rattle.picks.proofs.weights.least.Lts as lts
+use Rattle.picks.proofs.weights.smaller.Reads as smaller-reads
 
 abbrev Inv-loop : tie.InvT-loop
 Inv-loop weights n low₀ j₀ low j = (1 ≤ j) × ((j ≤ n) × Least weights j low)

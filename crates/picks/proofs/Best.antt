@@ -12,7 +12,7 @@ use borrow.Author.Tests.{eqb-true, eqb-false, eq-eqb, leb-true, leb-false, le-le
 use Rattle.folds.proofs.Tests.{which, same-test}
 use Rattle.circuit.specs.Tools.{upTo, select, holdsOfAll, pick}
 use Rattle.circuit.proofs.Lists.{in-upTo, upTo-in, all-in, in-all, select-same, select-in, in-select, in-length, at-place}
-use Rattle.steps.specs.Options.{bestAt, equalTo, Least}
+use Rattle.picks.specs.Picks.{bestAt, equalTo, Least}
 
 pub least-one : (w : List ℕ) → Least w 1 (getD w 0 0)
 least-one w = record { lowest = λ k l. lone k l; at = 0; below = omega arith; is = refl }

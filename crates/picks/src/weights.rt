@@ -5,7 +5,7 @@ ghost use Prim.Native.Nat.{_<_, _≤_};
 ghost use lib.ListN.{length, getD};
 ghost use lib.Dec.{eqb};
 ghost use Rattle.circuit.specs.Tools.{byte};
-ghost use Rattle.steps.specs.Options.{Least, equalTo, bestAt};
+ghost use Rattle.picks.specs.Picks.{Least, equalTo, bestAt};
 
 fn smaller(a: u16, b: u16) -> u16
     ensures { λ r. ⌜ (r ≤ a) × ((r ≤ b) × ((r ≡ a) ⊎ (r ≡ b))) ⌝ }

@@ -1,15 +1,15 @@
 use native.Mathlib.Omega.{arith}
 use mathlib.Core.Path.{sym, _∙_}
 use native.Mathlib.Nat.{mod-lt}
-use Rattle.steps.proofs.Best.{some-least, best-is}
+use Rattle.picks.proofs.Best.{some-least, best-is}
 use borrow.Author.Needs.{needs}
-use Rattle.steps.proofs.weights.best.Statement.{statement}
-use Rattle.steps.proofs.weights.best.Tie as tie
-use Rattle.steps.proofs.weights.best.Reads as reads
-use Rattle.steps.proofs.weights.best.Lts as lts
-use Rattle.steps.proofs.weights.least.Reads as least-reads
-use Rattle.steps.proofs.weights.place.Reads as place-reads
-use Rattle.steps.proofs.weights.ties.Reads as ties-reads
+use Rattle.picks.proofs.weights.best.Statement.{statement}
+use Rattle.picks.proofs.weights.best.Tie as tie
+use Rattle.picks.proofs.weights.best.Reads as reads
+use Rattle.picks.proofs.weights.best.Lts as lts
+use Rattle.picks.proofs.weights.least.Reads as least-reads
+use Rattle.picks.proofs.weights.place.Reads as place-reads
+use Rattle.picks.proofs.weights.ties.Reads as ties-reads
 
 rem-place : tie.Need-rem-place
 rem-place c = omega (arith, some-least _ _ _ (c .before .least .ensures), c .ties .ensures)

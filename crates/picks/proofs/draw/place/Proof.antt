@@ -2,10 +2,10 @@ use native.Mathlib.Omega.{arith}
 use mathlib.Core.Path.{refl}
 use native.Mathlib.Nat.{mod-lt}
 use borrow.Author.Needs.{needs}
-use Rattle.steps.proofs.draw.place.Statement.{statement}
-use Rattle.steps.proofs.draw.place.Tie as tie
-use Rattle.steps.proofs.draw.place.Reads as reads
-use Rattle.steps.proofs.draw.place.Lts as lts
+use Rattle.picks.proofs.draw.place.Statement.{statement}
+use Rattle.picks.proofs.draw.place.Tie as tie
+use Rattle.picks.proofs.draw.place.Reads as reads
+use Rattle.picks.proofs.draw.place.Lts as lts
 
 cast-result : tie.Need-cast-result
 cast-result c = omega (arith, mod-lt (c .args .draw) (c .pre))
