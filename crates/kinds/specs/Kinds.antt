@@ -1,4 +1,4 @@
--- For inner functions: kind bytes, what a gate gives, by the number of its children at 1, and what its options turn, by place. Assumes nothing.
+-- What test 4 goes by; and for inner functions what a gate gives, by the number of its children at 1, and what its options turn, by place. Assumes nothing.
 use Prim.Native.Nat.{ℕ, _+_}
 use mathlib.Core.Path.{_≡_}
 use mathlib.Core.Bool.{Bool, true, false, not}
@@ -9,7 +9,7 @@ use Rattle.folds.specs.Folds.{_and_}
 use Rattle.circuit.specs.Tools.{byte}
 use Rattle.circuit.specs.Gate.{Kind, Input, Not, And, Or, Xor, lastKind, kindOf, fanInFits, gives}
 
--- is this the byte of a kind, and the fan-in allowed for it
+-- "4. A kind is above 4 or a fan-in isn't allowed for its kind.": true where neither is so of a kind byte and a fan-in
 unfoldable pub kindFits : ℕ → ℕ → Bool
 kindFits k n = leb k lastKind and fanInFits (kindOf k) n
 

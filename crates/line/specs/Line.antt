@@ -36,10 +36,11 @@ configurationPart x = between (configurationAt x) (tapeAt x) x
 abbrev pub tapePart : List ℕ → List ℕ
 tapePart x = between (tapeAt x) (length x) x
 
--- "the number is 0 if the input passes 65,536 bytes or isn't exactly the 6 bytes and the three lengths together": true where neither is so
+-- the longest input, in bytes
 abbrev pub mostInput : ℕ
 mostInput = 65536
 
+-- "the number is 0 if the input passes 65,536 bytes or isn't exactly the 6 bytes and the three lengths together": true where neither is so
 unfoldable pub inputTest : List ℕ → Bool
 inputTest x = leb (length x) mostInput and eqb (length x) (tapeAt x + u16At x 4)
 
@@ -104,10 +105,11 @@ TooLong = (x : List ℕ) → mostInput < length x → lineOf x ≡ refusedLine 0
 abbrev pub NotExact : Type 0
 NotExact = (x : List ℕ) → ¬ (length x ≡ 6 + u16At x 0 + u16At x 2 + u16At x 4) → lineOf x ≡ refusedLine 0
 
--- The program reads 65,537 bytes at most, and the line for these is the line for the whole input.
+-- what the program reads at most: a byte more, so that a longer input shows
 abbrev pub inputRoom : ℕ
 inputRoom = mostInput + 1
 
+-- The line for these is the line for the whole input.
 abbrev pub CutInput : Type 0
 CutInput = (x : List ℕ) → lineOf (take inputRoom x) ≡ lineOf x
 
@@ -129,7 +131,7 @@ pub record Printing : Type 0 where
 abbrev pub printed : ℕ → List ℕ → Printing
 printed n w = record { size = n; out = w }
 
--- the line stands in the first bytes of the memory and the surplus is untouched; where memory is short of 1,100 bytes nothing is written, and the size is 0
+-- the line stands in the first bytes of the memory and the surplus is untouched; where memory is shorter than `lineRoom` nothing is written, and the size is 0
 unfoldable pub printing : List ℕ → List ℕ → Printing
 printing x out = cond (leb lineRoom (length out)) (printed (length (lineOf x)) (over (lineOf x) out)) (printed 0 out)
 

@@ -27,7 +27,7 @@ run-passed m s tape work ans e =
     let k = passed-before (startTests m s) _ e in
     let t12 = none-failed 11 _ _ (sym (behind-start m s _ k) ∙ e) in
     let t13 = none-failed 12 _ _ (t12 .1) in
-    record { begins = record { keeps = start-of m s k; whole = t12 .0 }; kinds = t13 .0; room = room-of m work ans (none-failed 13 _ _ (t13 .1) .0) }
+    record { begins = record { keeps = start-of m s k; tape-passes = t12 .0 }; kinds = t13 .0; room = room-of m work ans (none-failed 13 _ _ (t13 .1) .0) }
 
 module _ (m s entry work : List ℕ) where
   -- tests 9 to 14

@@ -7,13 +7,13 @@ use lib.ListN.{length}
 use Rattle.circuit.specs.declared.Entry.{Entry}
 use Rattle.circuit.specs.Circuit.{Circuit, justified}
 use Rattle.circuit.specs.Run.{turn, move}
-use Rattle.map.specs.Map.{mostGates, codeCount, circuit}
+use Rattle.map.specs.Map.{codeCount, circuit}
 use Rattle.map.specs.Check.{CodeMarks}
 use Rattle.steps.specs.declared.Turn.{Turn}
 
 -- a mark for each coded gate
-pub record CodesMarked (m coded : List ℕ) : Type 0 where
-  pub long : mostGates ≤ length coded
+pub record CodesMarked (m : List ℕ) (gates : ℕ) (coded : List ℕ) : Type 0 where
+  pub long : gates ≤ length coded
   pub marks : CodeMarks m (codeCount m) coded
 
 -- a configuration, and memory to weigh options in, a byte for each gate
@@ -24,10 +24,10 @@ pub record Space (gates : ℕ) (s trial scratch : List ℕ) : Type 0 where
 
 -- marks of the codes, and this space: all that an entry works with beside the marks of cone and front
 pub record Workspace (m : List ℕ) (gates : ℕ) (coded s trial scratch : List ℕ) : Type 0 where
-  pub codes : CodesMarked m coded
+  pub codes : CodesMarked m gates coded
   pub space : Space gates s trial scratch
 
--- a gate that an entry may draw
+-- an unjustified gate: what is used of the one that an entry draws
 pub record Drawable (m : List ℕ) (gates : ℕ) (s : List ℕ) (g : ℕ) : Type 0 where
   pub below : g < gates
   pub unjustified : justified (circuit m) s g ≡ false
@@ -37,7 +37,7 @@ pub record Flipped (xs before after : List ℕ) (count : ℕ) : Type 0 where
   pub are : after ≡ turn xs before
   pub counted : count ≡ length xs
 
--- the entry is done
+-- the entry is done. What it leaves in the memory to weigh options in is nobody's: a caller overwrites that before it reads it.
 pub record Did (c : Circuit) (s : List ℕ) (e : Entry) (r : Turn) (after : List ℕ) : Type 0 where
   pub gate : r .gate ≡ move c s e .gate
   pub turned : r .turned ≡ move c s e .flips

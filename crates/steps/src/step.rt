@@ -33,7 +33,7 @@ fn up(map: &[u8], counts: Counts, g: usize, i: u8, coded: &[u8], s: &mut [u8]) -
     requires { ⌜ Counted (now map) counts ⌝ }
     requires { ⌜ Drawable (now map) (counts .gates) (now s) g ⌝ }
     requires { ⌜ counts .gates ≡ length (now s) ⌝ }
-    requires { ⌜ CodesMarked (now map) (now coded) ⌝ }
+    requires { ⌜ CodesMarked (now map) (counts .gates) (now coded) ⌝ }
     ensures { λ r. ⌜ Flipped (chosen (circuit (now (map .entry))) (now (s .entry)) g (Up i)) (now (s .entry)) (now (s .exit)) r ⌝ }
 {
     if coded[g] != 0 {

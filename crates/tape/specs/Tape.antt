@@ -41,10 +41,11 @@ entriesFrom t at (suc n) = entryAt t at ∷ entriesFrom t (at + 4) n
 unfoldable pub entries : List ℕ → List Entry
 entries t = entriesFrom t 0 (length t / 4)
 
--- "12. The tape's length isn't a multiple of 4, is above 65,532": true where neither is so
+-- the longest tape, in bytes
 abbrev pub mostTape : ℕ
 mostTape = 65532
 
+-- "12. The tape's length isn't a multiple of 4, is above 65,532": true where neither is so
 unfoldable pub tapeTest : List ℕ → Bool
 tapeTest t = eqb (length t % 4) 0 and leb (length t) mostTape
 
