@@ -34,7 +34,7 @@ use Rattle.state.specs.State.{over}
 use Rattle.state.proofs.Over.{over-first, over-rest, over-long}
 use Rattle.state.proofs.Meaning.{evaluate-writes, evaluate-accepts, evaluate-number, evaluate-declines, mark-says, mark-accepts, mark-number, mark-declines}
 use Rattle.survey.proofs.Meaning.{survey-writes, survey-accepts, survey-number, survey-declines}
-use Rattle.tape.specs.Tape.{entries}
+use Rattle.tape.specs.Tape.{mostEntries, entries}
 use Rattle.search.specs.Run.{tapeTests, runTests, Told, told, answered, ran, runningBy, running, Room, Runnable}
 use Rattle.search.proofs.Runs.{survey-length, answer-length}
 use Rattle.search.proofs.Endings.{run-ends}
@@ -112,7 +112,7 @@ module _ (m s tape work ans : List ℕ) (a : Runnable m s tape work ans) where
         long = over-long (answer (circuit m) (end .last)) ans (gateCount m) l (a .room .answer-room);
       }
 
-  bounds : (end .outcome .moves ≤ 16383) × ((end .outcome .flips ≤ 8 * end .outcome .moves) × (told (end .outcome .ending) .front ≤ mostGates))
+  bounds : (end .outcome .moves ≤ mostEntries) × ((end .outcome .flips ≤ 8 * end .outcome .moves) × (told (end .outcome .ending) .front ≤ mostGates))
   bounds =
       let (i, j) = run-few (circuit m) ok s (a .start) (entries tape) in
       let f = ap (λ (t : Told). t .front) (run-ends (circuit m) s (entries tape)) in
@@ -190,7 +190,7 @@ only m s tape work ans f = (take (gateCount m) (running m s tape work ans .answe
 
 module _ (m s : List ℕ) (v : verdict m ≡ 0) (k : KeepsCodes (circuit m) s) where
   -- a tape of entries that ends Found, as bytes
-  module _ (ds : List ℕ) (n : ℕ) (d : AreDraws ds) (short : length ds ≤ 16383) (f : FinishingTape (circuit m) s ds n) where
+  module _ (ds : List ℕ) (n : ℕ) (d : AreDraws ds) (short : length ds ≤ mostEntries) (f : FinishingTape (circuit m) s ds n) where
     abbrev ways : List Way
     ways = waysOf (f .tape)
 

@@ -88,7 +88,7 @@ module _ (m s tape work ans : List ℕ) where
   runnable n =
       let (v, t) = behind m (runTests m s tape work ans) n in
       let p = run-passed m s tape work ans t in
-      let (whole, few) = length-of tape (p .begins .whole) in
+      let (whole, few) = length-of tape (p .begins .tape-passes) in
       record { accepted = v; start = p .begins .keeps; whole-entries = whole; not-longer = few; kinds = kinds-of tape whole (p .kinds); room = p .room }
 
   pub of-runnable : Runnable m s tape work ans → number ≡ 0

@@ -16,7 +16,7 @@ use Rattle.map.specs.Check.{verdict, MapAccepts, CheckNumber, CheckAccepts, Che
 use Rattle.map.specs.Children.{StretchIs}
 use Rattle.state.specs.State.{marking, EvaluateWrites, EvaluateAccepts, EvaluateNumber, EvaluateDeclines, MarkSays, MarkAccepts, MarkNumber, MarkDeclines}
 use Rattle.survey.specs.Survey.{SurveyWrites, SurveyAccepts, SurveyNumber, SurveyDeclines}
-use Rattle.tape.specs.Tape.{EntryRead, entries}
+use Rattle.tape.specs.Tape.{mostEntries, EntryRead, entries}
 use Rattle.search.specs.Move.{MoveWrites, MoveAccepts, MoveNumber, MoveDeclines}
 use Rattle.search.specs.Run.{Running, running, Room, RunAccepts, RunNumber, RunDeclines}
 
@@ -84,7 +84,7 @@ pub record RunMeans (m s tape work ans : List ℕ) (r : Running) : Type 0 where
   pub entry-is : (d : Entry) (i : ℕ) → 4 * i < length tape → EntryRead tape (4 * i) (getD (entries tape) i d)
   pub promised : Promised (circuit m) s (entries tape) (config (circuit m) s (entries tape)) (record { outcome = r .outcome; last = r .configuration })
   pub told : r .told ≡ record { accepted = true; found = isEmpty (front (circuit m) (r .configuration)); number = 0; front = frontSize (circuit m) (r .configuration) }
-  pub bounds : (r .outcome .moves ≤ 16383) × ((r .outcome .flips ≤ 8 * r .outcome .moves) × (r .told .front ≤ mostGates))
+  pub bounds : (r .outcome .moves ≤ mostEntries) × ((r .outcome .flips ≤ 8 * r .outcome .moves) × (r .told .front ≤ mostGates))
   pub surveyed : take (gateCount m) (r .work) ≡ survey (circuit m) (r .configuration)
   pub work-surplus : drop (gateCount m) (r .work) ≡ drop (gateCount m) work
   pub work-long : length (r .work) ≡ length work

@@ -41,9 +41,12 @@ entriesFrom t at (suc n) = entryAt t at ∷ entriesFrom t (at + 4) n
 unfoldable pub entries : List ℕ → List Entry
 entries t = entriesFrom t 0 (length t / 4)
 
--- the longest tape, in bytes
+-- the longest tape, in bytes, and its entries
 abbrev pub mostTape : ℕ
 mostTape = 65532
+
+abbrev pub mostEntries : ℕ
+mostEntries = 16383
 
 -- "12. The tape's length isn't a multiple of 4, is above 65,532": true where neither is so
 unfoldable pub tapeTest : List ℕ → Bool
