@@ -136,7 +136,7 @@ fn mark(map: &[u8], configuration: &[u8]) {
 // Copies what fits behind place `at`. Returns the place behind it.
 fn append(src: &[u8], dst: &mut [u8], at: usize) -> usize
     requires { ⌜ at ≤ length (now dst) ⌝ }
-    ensures { λ r. ⌜ r ≤ length (now (dst .entry)) ⌝ }
+    ensures { λ r. ⌜ r ≤ length (now (dst .exit)) ⌝ }
 {
     let mut end = at;
     let mut i = 0;
@@ -154,7 +154,7 @@ fn append(src: &[u8], dst: &mut [u8], at: usize) -> usize
 // The same so many times over.
 fn repeat(src: &[u8], times: usize, dst: &mut [u8], at: usize) -> usize
     requires { ⌜ at ≤ length (now dst) ⌝ }
-    ensures { λ r. ⌜ r ≤ length (now (dst .entry)) ⌝ }
+    ensures { λ r. ⌜ r ≤ length (now (dst .exit)) ⌝ }
 {
     let mut end = at;
     let mut left = times;
@@ -316,32 +316,43 @@ fn extra(rest: &[u8], head: usize, at: usize) -> usize
     map::decode::word(rest, at)
 }
 
+// Runs the case that stands first. Returns its length, or 0 where no whole case stands.
+fn first_case(s: &[u8]) -> usize
+    ensures { λ r. ⌜ r ≤ length (now (s .entry)) ⌝ }
+{
+    if s.len() < 7 {
+        return 0;
+    }
+    let head = header(s[0]);
+    if s.len() < head {
+        return 0;
+    }
+    let body = head + map::decode::word(s, 1);
+    let tape = body + map::decode::word(s, 3);
+    let end = tape + tape_length(s, head);
+    if s.len() < end {
+        return 0;
+    }
+    one_case(
+        s[0],
+        &s[head..body],
+        &s[body..tape],
+        &s[tape..end],
+        map::decode::word(s, 5),
+        extra(s, head, 11),
+        extra(s, head, 13),
+    );
+    end
+}
+
 fn all_cases(s: &[u8]) {
     let mut rest = s;
     let mut turns = s.len();
     while turns > 0 {
-        if rest.len() < 7 {
+        let end = first_case(rest);
+        if end == 0 {
             return;
         }
-        let head = header(rest[0]);
-        if rest.len() < head {
-            return;
-        }
-        let body = head + map::decode::word(rest, 1);
-        let tape = body + map::decode::word(rest, 3);
-        let end = tape + tape_length(rest, head);
-        if rest.len() < end {
-            return;
-        }
-        one_case(
-            rest[0],
-            &rest[head..body],
-            &rest[body..tape],
-            &rest[tape..end],
-            map::decode::word(rest, 5),
-            extra(rest, head, 11),
-            extra(rest, head, 13),
-        );
         rest = &rest[end..];
         turns -= 1;
     }

@@ -3,11 +3,7 @@ use Rattle.cases.proofs.all_cases.Statement.{statement}
 use Rattle.cases.proofs.all_cases.Tie as tie
 use Rattle.cases.proofs.all_cases.Reads as reads
 use Rattle.cases.proofs.all_cases.Lts as lts
-use Rattle.cases.proofs.extra.Reads as extra-reads
-use Rattle.cases.proofs.header.Reads as header-reads
-use Rattle.cases.proofs.one_case.Reads as one-case-reads
-use Rattle.cases.proofs.tape_length.Reads as tape-length-reads
-use Rattle.map.proofs.decode.word.Reads as word-reads
+use Rattle.cases.proofs.first_case.Reads as first-case-reads
 
 abbrev Inv-loop : tie.InvT-loop
 Inv-loop s rest₀ turns₀ rest turns = Unit {0}
@@ -22,31 +18,8 @@ all-cases-spec =
     Inv-loop
     μ-loop
     (λ c. search needs)
-    (λ c. search needs)
-    (λ c. search needs)
     (λ c κs. search needs)
     (λ c. search needs)
-    (λ c κs. search needs)
-    (λ c. search needs)
-    (λ c κs. search needs)
-    (λ c. search needs)
-    (λ c κs. search needs)
-    (λ c. search needs)
-    (λ c. search needs)
-    (λ c. search needs)
-    (λ c. search needs)
-    (λ c. search needs)
-    (λ c. search needs)
-    (λ c. search needs)
-    (λ c. search needs)
-    (λ c. search needs)
-    (λ c. search needs)
-    (λ c. search needs)
-    (λ c. search needs)
-    (λ c κs. search needs)
-    (λ c κs. search needs)
-    (λ c κs. search needs)
-    (λ c κs. search needs)
     (λ c. search needs)
     (λ c. search needs)
     (λ c. search needs)

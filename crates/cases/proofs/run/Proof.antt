@@ -1,5 +1,6 @@
-use native.Mathlib.Omega.{arith}
+use Prim.Native.Nat.{ℕ, _≤_, zero-le}
 use mathlib.Core.Path.{sym}
+use lib.ListN.{length-replicate}
 use lib.Seq.{length-take-le}
 use borrow.Author.Needs.{needs}
 use Rattle.cases.proofs.run.Statement.{statement}
@@ -10,21 +11,12 @@ use Rattle.cases.proofs.append.Reads as append-reads
 use Rattle.cases.proofs.at_most_2048.Reads as at-most-2048-reads
 use Rattle.cases.proofs.run_into.Reads as run-into-reads
 
-slice-aggregate-run-into : tie.Need-slice-aggregate-run-into
-slice-aggregate-run-into c =
-    let p : tie.After-append = search in
-    let a = p .append in
-    sym (length-take-le (a .result) (a .last .1 .0) (omega arith))
+-- how much of the work memory and of the answer memory is lent
+few : (c : tie.After-at-most-2048) → c .at-most-2048 .result ≤ 2048
+few c = c .at-most-2048 .ensures
 
-slice-aggregate-run-into-2 : tie.Need-slice-aggregate-run-into-2
-slice-aggregate-run-into-2 c =
-    let m : tie.After-at-most-2048 = search in
-    sym (length-take-le _ _ (m .at-most-2048 .ensures))
-
-slice-aggregate-run-into-3 : tie.Need-slice-aggregate-run-into-3
-slice-aggregate-run-into-3 c =
-    let m : tie.After-at-most-20482 = search in
-    sym (length-take-le _ _ (m .at-most-20482 .ensures))
+few-2 : (c : tie.After-at-most-20482) → c .at-most-20482 .result ≤ 2048
+few-2 c = c .at-most-20482 .ensures
 
 pub run-spec : {M : Type 1} → statement M
 run-spec =
@@ -32,13 +24,13 @@ run-spec =
     (tie.spec
     (λ c κs. search needs)
     (λ c κs. search needs)
-    (λ c. search needs)
-    (λ c κs. search needs)
-    (λ c. search needs)
-    slice-aggregate-run-into
-    (λ c. search needs)
-    slice-aggregate-run-into-2
-    (λ c. search needs)
-    slice-aggregate-run-into-3
+    (λ c. sym (length-replicate {A = ℕ} 65536 0))
+    (λ c κs. zero-le)
+    (λ c. c .before .append .ensures)
+    (λ c. let p : tie.After-append = search in sym (length-take-le _ _ (p .append .ensures)))
+    (λ c. few (search))
+    (λ c. sym (length-take-le _ _ (few (search))))
+    (λ c. few-2 (search))
+    (λ c. sym (length-take-le _ _ (few-2 (search))))
     (λ c κs. search needs)
     (λ c. search needs))
