@@ -35,19 +35,19 @@ fn weigh(
     i: usize,
     s: &[u8],
     trial: &mut [u8],
-    marks: &mut [u8],
+    scratch: &mut [u8],
 ) -> u16
     requires { ⌜ Counted (now map) counts ⌝ }
-    requires { ⌜ (g < counts .gates) × Space (counts .gates) (now s) (now trial) (now marks) ⌝ }
+    requires { ⌜ (g < counts .gates) × Space (counts .gates) (now s) (now trial) (now scratch) ⌝ }
     ensures { λ r. ⌜ r ≡ interestAfter (now (map .entry)) (now (s .entry)) (optionGates (now (map .entry)) (now (s .entry)) g i) ⌝ }
 {
     copy(s, trial);
     options::flip_option(map, counts, g, i, trial);
-    let sizes = writing::write(map, counts, trial, marks);
+    let sizes = writing::write(map, counts, trial, scratch);
     sizes.interest
 }
 
-// The sizes after each of the n options of gate g.
+// The weights of the n options of gate g: the sizes of the interest set after them.
 fn weigh_all(
     map: &[u8],
     counts: Counts,
@@ -55,17 +55,17 @@ fn weigh_all(
     n: usize,
     s: &[u8],
     trial: &mut [u8],
-    marks: &mut [u8],
-    sizes: &mut [u16],
+    scratch: &mut [u8],
+    weighed: &mut [u16],
 )
     requires { ⌜ Counted (now map) counts ⌝ }
-    requires { ⌜ (g < counts .gates) × Space (counts .gates) (now s) (now trial) (now marks) ⌝ }
-    requires { ⌜ n ≤ length (now sizes) ⌝ }
-    ensures { λ _. ⌜ now (sizes .exit) ≡ weightsOf (interestAfter (now (map .entry)) (now (s .entry))) (now (map .entry)) (now (s .entry)) g n ++ drop n (now (sizes .entry)) ⌝ }
+    requires { ⌜ (g < counts .gates) × Space (counts .gates) (now s) (now trial) (now scratch) ⌝ }
+    requires { ⌜ n ≤ length (now weighed) ⌝ }
+    ensures { λ _. ⌜ now (weighed .exit) ≡ weightsOf (interestAfter (now (map .entry)) (now (s .entry))) (now (map .entry)) (now (s .entry)) g n ++ drop n (now (weighed .entry)) ⌝ }
 {
     let mut i = 0;
     while i < n {
-        sizes[i] = weigh(map, counts, g, i, s, trial, marks);
+        weighed[i] = weigh(map, counts, g, i, s, trial, scratch);
         i += 1;
     }
 }
@@ -78,19 +78,19 @@ pub fn turn(
     i: u8,
     s: &mut [u8],
     trial: &mut [u8],
-    marks: &mut [u8],
+    scratch: &mut [u8],
 ) -> u32
     requires { ⌜ Counted (now map) counts ⌝ }
     requires { ⌜ Drawable (now map) (counts .gates) (now s) g ⌝ }
-    requires { ⌜ Space (counts .gates) (now s) (now trial) (now marks) ⌝ }
+    requires { ⌜ Space (counts .gates) (now s) (now trial) (now scratch) ⌝ }
     ensures { λ r. ⌜ Flipped (chosen (circuit (now (map .entry))) (now (s .entry)) g (Greedy i)) (now (s .entry)) (now (s .exit)) r ⌝ }
 {
     let n = options::count(map, counts, g, s);
     if n == 1 {
         return options::flip_option(map, counts, g, 0, s);
     }
-    let mut sizes = [0u16; 8];
-    weigh_all(map, counts, g, n, s, trial, marks, &mut sizes);
-    let j = weights::best(&sizes, n, i);
+    let mut weighed = [0u16; 8];
+    weigh_all(map, counts, g, n, s, trial, scratch, &mut weighed);
+    let j = weights::best(&weighed, n, i);
     options::flip_option(map, counts, g, j, s)
 }

@@ -14,10 +14,10 @@ use Rattle.steps.proofs.greedy.weigh_all.Lts as lts
 use Rattle.steps.proofs.greedy.weigh.Reads as weigh-reads
 
 abbrev Inv-loop : tie.InvT-loop
-Inv-loop map counts g n s trial₀ marks₀ sizes₀ i₀ trial marks sizes i = (i ≤ n) × ((sizes ≡ weightsOf (interestAfter map s) map s g i ++ drop i sizes₀) × ((length sizes ≡ length sizes₀) × ((length trial ≡ length trial₀) × (length marks ≡ length marks₀))))
+Inv-loop map counts g n s trial₀ scratch₀ weighed₀ i₀ trial scratch weighed i = (i ≤ n) × ((weighed ≡ weightsOf (interestAfter map s) map s g i ++ drop i weighed₀) × ((length weighed ≡ length weighed₀) × ((length trial ≡ length trial₀) × (length scratch ≡ length scratch₀))))
 
 abbrev μ-loop : tie.MeasureT-loop
-μ-loop map counts g n s trial₀ marks₀ sizes₀ i₀ trial marks sizes i = n - i
+μ-loop map counts g n s trial₀ scratch₀ weighed₀ i₀ trial scratch weighed i = n - i
 
 loop-holds : tie.Need-loop-holds Inv-loop μ-loop
 loop-holds c = (search needs, (weights-none _ _ _ _, (refl, (refl, refl))))
@@ -29,7 +29,7 @@ loop-again c =
     let w : tie.After-weigh Inv-loop μ-loop = search in (
       omega arith,
       (
-        ap (λ (x : List ℕ). set x (l .loop .i) (w .weigh .result)) (l .loop .inv .1 .0) ∙ weights-more (now (s .args .map)) (now (s .args .s)) (s .args .g) (now (s .args .sizes)) (l .loop .i) (w .weigh .result) (omega arith) (w .weigh .ensures),
+        ap (λ (x : List ℕ). set x (l .loop .i) (w .weigh .result)) (l .loop .inv .1 .0) ∙ weights-more (now (s .args .map)) (now (s .args .s)) (s .args .g) (now (s .args .weighed)) (l .loop .i) (w .weigh .result) (omega arith) (w .weigh .ensures),
         (simp length-set (l .loop .inv .1 .1 .0), (omega (arith, w .weigh, l), omega (arith, w .weigh, l))),
       ),
     )
