@@ -37,7 +37,7 @@ pub record Flipped (xs before after : List ℕ) (count : ℕ) : Type 0 where
   pub are : after ≡ turn xs before
   pub counted : count ≡ length xs
 
--- the entry is done. What it leaves in the memory to weigh options in is nobody's: a caller overwrites that before it reads it.
+-- the entry is done (what then stands in the memory for weighing is left open: it is overwritten before it is read)
 pub record Did (c : Circuit) (s : List ℕ) (e : Entry) (r : Turn) (after : List ℕ) : Type 0 where
   pub gate : r .gate ≡ move c s e .gate
   pub turned : r .turned ≡ move c s e .flips

@@ -14,11 +14,11 @@ use Rattle.tape.specs.declared.Step.{Step}
 use Rattle.tape.specs.declared.Step.the-variants.{Next, End}
 
 module _ (t : List ℕ) (at : ℕ) where
-  pub step-goes : leb (at + 4) (length t) ≡ true → stepAt t at ≡ Next (entryAt t at) (at + 4)
+  step-goes : leb (at + 4) (length t) ≡ true → stepAt t at ≡ Next (entryAt t at) (at + 4)
   unfolding stepAt
   step-goes q = rw q
 
-  pub step-ends : leb (at + 4) (length t) ≡ false → stepAt t at ≡ End
+  step-ends : leb (at + 4) (length t) ≡ false → stepAt t at ≡ End
   unfolding stepAt
   step-ends q = rw q
 
