@@ -109,7 +109,7 @@ NotExact = (x : List ℕ) → ¬ (length x ≡ 6 + u16At x 0 + u16At x 2 + u16At
 abbrev pub inputRoom : ℕ
 inputRoom = mostInput + 1
 
--- The line for these is the line for the whole input.
+-- The line for the bytes read is the line for the whole input.
 abbrev pub CutInput : Type 0
 CutInput = (x : List ℕ) → lineOf (take inputRoom x) ≡ lineOf x
 
