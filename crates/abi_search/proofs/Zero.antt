@@ -2,18 +2,18 @@
 use mathlib.Core.Path.{refl, ap}
 use mathlib.Core.List.{_++_}
 use Rattle.map.specs.Check.{firstFailed, mapTests}
-use Rattle.search.specs.Move.{moveTests, Moving, movingBy, moving}
+use Rattle.search.specs.Move.{moveTests, MoveEffect, moveBy, moveEffect}
 use Rattle.map.specs.Map.{circuit}
 use Rattle.tape.specs.Tape.{entries}
-use Rattle.search.specs.Run.{runTests, Told, Running, runningBy, running}
+use Rattle.search.specs.Run.{runTests, EndingValues, RunEffect, runBy, runEffect}
 use Rattle.search.proofs.Endings.{run-ends}
 use Rattle.abi_state.proofs.Zero.{zero-of}
 use Rattle.abi_search.specs.Numbers.{ZeroIsAccepted}
 
 pub zero-is-accepted : ZeroIsAccepted
-unfolding moving movingBy running runningBy
+unfolding moveEffect moveBy runEffect runBy
 zero-is-accepted = record {
-  move-zero = λ m s entry work. zero-of (λ (r : Moving). r .accepted) (λ r. r .number) (firstFailed (mapTests m ++ moveTests m s entry work)) _ _ refl refl refl refl;
+  move-zero = λ m s entry work. zero-of (λ (r : MoveEffect). r .accepted) (λ r. r .number) (firstFailed (mapTests m ++ moveTests m s entry work)) _ _ refl refl refl refl;
   run-zero = λ m s tape work ans. let e = run-ends (circuit m) s (entries tape) in
-      zero-of (λ (r : Running). r .told .accepted) (λ r. r .told .number) (firstFailed (mapTests m ++ runTests m s tape work ans)) _ _ (ap (λ (t : Told). t .accepted) e) (ap (λ (t : Told). t .number) e) refl refl;
+      zero-of (λ (r : RunEffect). r .told .accepted) (λ r. r .told .number) (firstFailed (mapTests m ++ runTests m s tape work ans)) _ _ (ap (λ (t : EndingValues). t .accepted) e) (ap (λ (t : EndingValues). t .number) e) refl refl;
 }

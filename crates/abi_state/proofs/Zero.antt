@@ -7,8 +7,8 @@ use mathlib.Core.List.{_++_}
 use lib.Dec.{eqb}
 use borrow.Author.Tests.{eqb-false}
 use Rattle.folds.proofs.Tests.{which}
-use Rattle.map.specs.Check.{firstFailed, mapTests, verdict, Said, checked}
-use Rattle.state.specs.State.{rowTests, configurationTests, Evaluation, evaluationBy, evaluation, Marking, markingBy, marking}
+use Rattle.map.specs.Check.{firstFailed, mapTests, verdict, CheckEffect, checkEffect}
+use Rattle.state.specs.State.{rowTests, configurationTests, EvaluateEffect, evaluateBy, evaluateEffect, MarkEffect, markBy, markEffect}
 use Rattle.abi_state.specs.Numbers.{ZeroIsAccepted}
 
 -- an answer that is r where no test fails, and t where test n does
@@ -20,9 +20,9 @@ zero-of accepted number n r t a z b k = elim (which (eqb n 0)) [
 ]
 
 pub zero-is-accepted : ZeroIsAccepted
-unfolding checked evaluation evaluationBy marking markingBy
+unfolding checkEffect evaluateEffect evaluateBy markEffect markBy
 zero-is-accepted = record {
-  check-zero = λ m. zero-of (λ (r : Said). r .accepted) (λ r. r .number) (verdict m) _ _ refl refl refl refl;
-  evaluate-zero = λ m row out. zero-of (λ (r : Evaluation). r .accepted) (λ r. r .number) (firstFailed (mapTests m ++ rowTests m row out)) _ _ refl refl refl refl;
-  mark-zero = λ m s. zero-of (λ (r : Marking). r .accepted) (λ r. r .number) (firstFailed (mapTests m ++ configurationTests m s)) _ _ refl refl refl refl;
+  check-zero = λ m. zero-of (λ (r : CheckEffect). r .accepted) (λ r. r .number) (verdict m) _ _ refl refl refl refl;
+  evaluate-zero = λ m row out. zero-of (λ (r : EvaluateEffect). r .accepted) (λ r. r .number) (firstFailed (mapTests m ++ rowTests m row out)) _ _ refl refl refl refl;
+  mark-zero = λ m s. zero-of (λ (r : MarkEffect). r .accepted) (λ r. r .number) (firstFailed (mapTests m ++ configurationTests m s)) _ _ refl refl refl refl;
 }

@@ -5,8 +5,8 @@ use mathlib.Core.List.{List, [], _∷_}
 use lib.ListN.{take}
 use Rattle.circuit.specs.Bench.{A}
 use Rattle.map.specs.Bench.{adderBytes, gapBytes}
-use Rattle.map.specs.Check.{checked}
-use Rattle.state.specs.State.{marking}
+use Rattle.map.specs.Check.{checkEffect}
+use Rattle.state.specs.State.{markEffect}
 use Rattle.state.specs.Bench.{row101, values101}
 use Rattle.abi_state.specs.Numbers.{checkNumbers, childrenNumbers, markNumbers}
 
@@ -19,10 +19,10 @@ three = take 3 five
 
 pub record Examples : Type 0 where
   -- 8 gates, 3 inputs, 10 children, 1 code; with a place too many, with two places, and with none
-  pub counts : checkNumbers (checked adderBytes) five ≡ 8 ∷ 3 ∷ 10 ∷ 1 ∷ 170 ∷ []
-  pub two-places : checkNumbers (checked adderBytes) (take 2 five) ≡ 8 ∷ 3 ∷ []
-  pub no-place : checkNumbers (checked adderBytes) [] ≡ []
-  pub counts-declined : checkNumbers (checked (take 67 adderBytes)) five ≡ five
+  pub counts : checkNumbers (checkEffect adderBytes) five ≡ 8 ∷ 3 ∷ 10 ∷ 1 ∷ 170 ∷ []
+  pub two-places : checkNumbers (checkEffect adderBytes) (take 2 five) ≡ 8 ∷ 3 ∷ []
+  pub no-place : checkNumbers (checkEffect adderBytes) [] ≡ []
+  pub counts-declined : checkNumbers (checkEffect (take 67 adderBytes)) five ≡ five
   -- gate 5's children stand in the bytes 52 to 55; an input's would stand at 44, and one's behind other gates where these end; past the end, and a declined map
   pub stretch : childrenNumbers adderBytes 5 three ≡ 52 ∷ 4 ∷ 170 ∷ []
   pub stretch-input : childrenNumbers adderBytes 1 three ≡ 44 ∷ 0 ∷ 170 ∷ []
@@ -30,6 +30,6 @@ pub record Examples : Type 0 where
   pub stretch-past : childrenNumbers adderBytes 8 three ≡ 0 ∷ 0 ∷ 170 ∷ []
   pub stretch-declined : childrenNumbers (take 67 adderBytes) 5 three ≡ 0 ∷ 0 ∷ 170 ∷ []
   -- yes, no, and declined
-  pub yes : markNumbers (marking adderBytes values101) three ≡ 1 ∷ 170 ∷ 170 ∷ []
-  pub no : markNumbers (marking adderBytes A) three ≡ 0 ∷ 170 ∷ 170 ∷ []
-  pub mark-declined : markNumbers (marking adderBytes row101) three ≡ three
+  pub yes : markNumbers (markEffect adderBytes values101) three ≡ 1 ∷ 170 ∷ 170 ∷ []
+  pub no : markNumbers (markEffect adderBytes A) three ≡ 0 ∷ 170 ∷ 170 ∷ []
+  pub mark-declined : markNumbers (markEffect adderBytes row101) three ≡ three

@@ -7,9 +7,9 @@ use mathlib.Core.Bool.{Bool, true, cond}
 use mathlib.Core.List.{List, [], _∷_}
 use lib.ListN.{length, getD}
 use Rattle.circuit.specs.Tools.{byte}
-use Rattle.map.specs.Check.{Said, checked}
+use Rattle.map.specs.Check.{CheckEffect, checkEffect}
 use Rattle.map.specs.Children.{stretchAt, stretchLength}
-use Rattle.state.specs.State.{evaluation, Marking, marking}
+use Rattle.state.specs.State.{evaluateEffect, MarkEffect, markEffect}
 
 -- the numbers xs in the first places of the lent memory ns, as many as it has
 unfoldable pub placed : List ℕ → List ℕ → List ℕ
@@ -22,7 +22,7 @@ abbrev pub numbered : Bool → List ℕ → List ℕ → List ℕ
 numbered accepted xs ns = cond accepted (placed xs ns) ns
 
 -- "Check returns counts of gates, inputs, children and codes."
-abbrev pub checkNumbers : Said → List ℕ → List ℕ
+abbrev pub checkNumbers : CheckEffect → List ℕ → List ℕ
 checkNumbers r = numbered (r .accepted) (r .gates ∷ r .inputs ∷ r .children ∷ r .codes ∷ [])
 
 -- Children: where in map m the stretch of gate g begins, and its length
@@ -30,7 +30,7 @@ abbrev pub childrenNumbers : List ℕ → ℕ → List ℕ → List ℕ
 childrenNumbers m g = placed (stretchAt m g ∷ stretchLength m g ∷ [])
 
 -- Mark: 1 for yes, 0 for no
-abbrev pub markNumbers : Marking → List ℕ → List ℕ
+abbrev pub markNumbers : MarkEffect → List ℕ → List ℕ
 markNumbers r = numbered (r .accepted) (byte (r .yes) ∷ [])
 
 -- What `placed` leaves: as many places as before, the numbers in the first of them in their order, and the other places as they were.
@@ -44,6 +44,6 @@ PlacedIs = (xs ns : List ℕ) → Places xs ns
 
 -- Hosts go by the number that a call returns: it is 0 exactly where the call is accepted.
 pub record ZeroIsAccepted : Type 0 where
-  pub check-zero : (m : List ℕ) → (checked m .number ≡ 0) ↔ (checked m .accepted ≡ true)
-  pub evaluate-zero : (m row out : List ℕ) → (evaluation m row out .number ≡ 0) ↔ (evaluation m row out .accepted ≡ true)
-  pub mark-zero : (m s : List ℕ) → (marking m s .number ≡ 0) ↔ (marking m s .accepted ≡ true)
+  pub check-zero : (m : List ℕ) → (checkEffect m .number ≡ 0) ↔ (checkEffect m .accepted ≡ true)
+  pub evaluate-zero : (m row out : List ℕ) → (evaluateEffect m row out .number ≡ 0) ↔ (evaluateEffect m row out .accepted ≡ true)
+  pub mark-zero : (m s : List ℕ) → (markEffect m s .number ≡ 0) ↔ (markEffect m s .accepted ≡ true)

@@ -7,15 +7,15 @@ use map::Checked;
 use state::Marked;
 use state::Written;
 ghost use mathlib.Core.Path.{_≡_};
-ghost use Rattle.map.specs.Check.{checked};
-ghost use Rattle.state.specs.State.{evaluation, marking};
+ghost use Rattle.map.specs.Check.{checkEffect};
+ghost use Rattle.state.specs.State.{evaluateEffect, markEffect};
 ghost use Rattle.abi_state.specs.Numbers.{checkNumbers, childrenNumbers, markNumbers};
 
 // Check. Numbers: gates, inputs, children, codes.
 #[no_mangle]
 pub extern "C" fn peeriewick_check(map: &[u8], numbers: &mut [usize]) -> u8
-    ensures { λ r. ⌜ r ≡ checked (now (map .entry)) .number ⌝ }
-    ensures { λ _. ⌜ now (numbers .exit) ≡ checkNumbers (checked (now (map .entry))) (now (numbers .entry)) ⌝ }
+    ensures { λ r. ⌜ r ≡ checkEffect (now (map .entry)) .number ⌝ }
+    ensures { λ _. ⌜ now (numbers .exit) ≡ checkNumbers (checkEffect (now (map .entry))) (now (numbers .entry)) ⌝ }
 {
     match map::check(map) {
         Checked::Refused(k) => k,
@@ -35,8 +35,8 @@ pub extern "C" fn peeriewick_children(map: &[u8], gate: usize, numbers: &mut [us
 // Evaluate.
 #[no_mangle]
 pub extern "C" fn peeriewick_evaluate(map: &[u8], row: &[u8], out: &mut [u8]) -> u8
-    ensures { λ r. ⌜ r ≡ evaluation (now (map .entry)) (now (row .entry)) (now (out .entry)) .number ⌝ }
-    ensures { λ _. ⌜ now (out .exit) ≡ evaluation (now (map .entry)) (now (row .entry)) (now (out .entry)) .out ⌝ }
+    ensures { λ r. ⌜ r ≡ evaluateEffect (now (map .entry)) (now (row .entry)) (now (out .entry)) .number ⌝ }
+    ensures { λ _. ⌜ now (out .exit) ≡ evaluateEffect (now (map .entry)) (now (row .entry)) (now (out .entry)) .out ⌝ }
 {
     match state::evaluate(map, row, out) {
         Written::Refused(k) => k,
@@ -47,8 +47,8 @@ pub extern "C" fn peeriewick_evaluate(map: &[u8], row: &[u8], out: &mut [u8]) ->
 // Mark. Numbers: 1 for yes, 0 for no.
 #[no_mangle]
 pub extern "C" fn peeriewick_mark(map: &[u8], configuration: &[u8], numbers: &mut [usize]) -> u8
-    ensures { λ r. ⌜ r ≡ marking (now (map .entry)) (now (configuration .entry)) .number ⌝ }
-    ensures { λ _. ⌜ now (numbers .exit) ≡ markNumbers (marking (now (map .entry)) (now (configuration .entry))) (now (numbers .entry)) ⌝ }
+    ensures { λ r. ⌜ r ≡ markEffect (now (map .entry)) (now (configuration .entry)) .number ⌝ }
+    ensures { λ _. ⌜ now (numbers .exit) ≡ markNumbers (markEffect (now (map .entry)) (now (configuration .entry))) (now (numbers .entry)) ⌝ }
 {
     match state::mark(map, configuration) {
         Marked::Refused(k) => k,

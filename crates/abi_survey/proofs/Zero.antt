@@ -2,10 +2,10 @@
 use mathlib.Core.Path.{refl}
 use mathlib.Core.List.{_++_}
 use Rattle.map.specs.Check.{firstFailed, mapTests}
-use Rattle.survey.specs.Survey.{surveyTests, Surveying, surveyingBy, surveying}
+use Rattle.survey.specs.Survey.{surveyTests, SurveyEffect, surveyBy, surveyEffect}
 use Rattle.abi_state.proofs.Zero.{zero-of}
 use Rattle.abi_survey.specs.Numbers.{SurveyZero}
 
 pub survey-zero : SurveyZero
-unfolding surveying surveyingBy
-survey-zero m s out = zero-of (λ (r : Surveying). r .accepted) (λ r. r .number) (firstFailed (mapTests m ++ surveyTests m s out)) _ _ refl refl refl refl
+unfolding surveyEffect surveyBy
+survey-zero m s out = zero-of (λ (r : SurveyEffect). r .accepted) (λ r. r .number) (firstFailed (mapTests m ++ surveyTests m s out)) _ _ refl refl refl refl

@@ -5,12 +5,12 @@ use mathlib.Core.Logic.{_↔_}
 use mathlib.Core.Bool.{true}
 use mathlib.Core.List.{List, [], _∷_}
 use Rattle.abi_state.specs.Numbers.{numbered}
-use Rattle.survey.specs.Survey.{Surveying, surveying}
+use Rattle.survey.specs.Survey.{SurveyEffect, surveyEffect}
 
 -- "returns the sizes of front and interest set"
-abbrev pub surveyNumbers : Surveying → List ℕ → List ℕ
+abbrev pub surveyNumbers : SurveyEffect → List ℕ → List ℕ
 surveyNumbers r = numbered (r .accepted) (r .front ∷ r .interest ∷ [])
 
 -- it returns 0 exactly where it is accepted
 abbrev pub SurveyZero : Type 0
-SurveyZero = (m s out : List ℕ) → (surveying m s out .number ≡ 0) ↔ (surveying m s out .accepted ≡ true)
+SurveyZero = (m s out : List ℕ) → (surveyEffect m s out .number ≡ 0) ↔ (surveyEffect m s out .accepted ≡ true)

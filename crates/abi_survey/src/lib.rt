@@ -2,7 +2,7 @@
 use abi_state::place;
 use survey::Surveyed;
 ghost use mathlib.Core.Path.{_≡_};
-ghost use Rattle.survey.specs.Survey.{surveying};
+ghost use Rattle.survey.specs.Survey.{surveyEffect};
 ghost use Rattle.abi_survey.specs.Numbers.{surveyNumbers};
 
 // Survey. Numbers: front, interest.
@@ -13,9 +13,9 @@ pub extern "C" fn peeriewick_survey(
     out: &mut [u8],
     numbers: &mut [usize],
 ) -> u8
-    ensures { λ r. ⌜ r ≡ surveying (now (map .entry)) (now (configuration .entry)) (now (out .entry)) .number ⌝ }
-    ensures { λ _. ⌜ now (out .exit) ≡ surveying (now (map .entry)) (now (configuration .entry)) (now (out .entry)) .out ⌝ }
-    ensures { λ _. ⌜ now (numbers .exit) ≡ surveyNumbers (surveying (now (map .entry)) (now (configuration .entry)) (now (out .entry))) (now (numbers .entry)) ⌝ }
+    ensures { λ r. ⌜ r ≡ surveyEffect (now (map .entry)) (now (configuration .entry)) (now (out .entry)) .number ⌝ }
+    ensures { λ _. ⌜ now (out .exit) ≡ surveyEffect (now (map .entry)) (now (configuration .entry)) (now (out .entry)) .out ⌝ }
+    ensures { λ _. ⌜ now (numbers .exit) ≡ surveyNumbers (surveyEffect (now (map .entry)) (now (configuration .entry)) (now (out .entry))) (now (numbers .entry)) ⌝ }
 {
     match survey::survey(map, configuration, out) {
         Surveyed::Refused(k) => k,

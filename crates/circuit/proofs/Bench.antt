@@ -5,12 +5,12 @@ use Rattle.folds.specs.Folds.{_and_, _or_, allBelow, descend}
 use Rattle.circuit.specs.Circuit.{justified}
 use Rattle.circuit.specs.Evaluate.{inputsBefore, rowOf, values, evaluate, mark, differ}
 use Rattle.circuit.specs.Survey.{spread, reasons, cone, inFront, front, interest, survey, frontSize, interestSize}
-use Rattle.circuit.specs.Run.{drawn, downOptions, optionAt, greedyOptions, chosen, turned, run, answer}
+use Rattle.circuit.specs.Run.{drawn, downOptions, optionAt, greedyOptions, chosen, entryTurns, run, answer}
 use Rattle.circuit.specs.Bench.{adder, clash, uncoded, corner, nand, gap, three, tie, nots, Examples}
 
 -- every definition that the examples compute with, under one name
 opened : ℕ
-unfolding _and_ _or_ allBelow descend justified inputsBefore rowOf values evaluate mark differ spread reasons cone inFront front interest survey frontSize interestSize drawn downOptions optionAt greedyOptions chosen turned run answer adder clash uncoded corner nand gap three tie nots
+unfolding _and_ _or_ allBelow descend justified inputsBefore rowOf values evaluate mark differ spread reasons cone inFront front interest survey frontSize interestSize drawn downOptions optionAt greedyOptions chosen entryTurns run answer adder clash uncoded corner nand gap three tie nots
 opened = 0
 
 pub examples : Examples

@@ -16,7 +16,7 @@ use Rattle.circuit.specs.Circuit.{Circuit, isSome, coded, WellFormed, on
 use Rattle.circuit.specs.Evaluate.{Satisfying, KeepsCodes, differ}
 use Rattle.circuit.specs.Survey.{inFront, front}
 use Rattle.circuit.specs.declared.Entry.{Entry}
-use Rattle.circuit.specs.Run.{drawn, downOptions, optionAt, turn, chosen, turned, after, run, answer}
+use Rattle.circuit.specs.Run.{drawn, downOptions, optionAt, turn, chosen, entryTurns, after, run, answer}
 use Rattle.circuit.specs.Promise.{NotGreedy, optionByte, FinishingTape, Demand3OnCircuits}
 use Rattle.circuit.proofs.Values.{agree, unequal}
 use Rattle.circuit.proofs.Lists.{place, pick-at, select-none, in-upTo}
@@ -38,7 +38,7 @@ record Step (c : Circuit) (s a : List ℕ) (d : ℕ) : Type 0 where
   choice : Choice
   plain : NotGreedy choice × (optionByte choice < 256)
   gone : List ℕ
-  turns : turned c s (record { draw = d; choice = choice }) ≡ gone
+  turns : entryTurns c s (record { draw = d; choice = choice }) ≡ gone
   some-gone : 1 ≤ length gone
   turnable : Turnable c gone
   near : (x : ℕ) → In x gone → on a x ≡ not (on s x)
@@ -59,7 +59,7 @@ module _ (c : Circuit) (ok : WellFormed c) (a : List ℕ) (sat : Satisfying c a)
       laws (c .kind g) (on s g) (e .gate) .toward (on s) (on a) (c .kids g) e (sat .obeys g (in-front c ok s g m .0) (e .gate) ∙ q)
 
   up-step : (d : ℕ) → In (drawn c s d) (front c s) → on a (drawn c s d) ≡ not (on s (drawn c s d)) → Step c s a d
-  unfolding turned chosen optionAt
+  unfolding entryTurns chosen optionAt
   up-step d m q =
       let uncoded = free-where (drawn c s d) (in-front c ok s (drawn c s d) m .0) q in
       record {
@@ -73,7 +73,7 @@ module _ (c : Circuit) (ok : WellFormed c) (a : List ℕ) (sat : Satisfying c a)
       }
 
   down-step : (d : ℕ) → In (drawn c s d) (front c s) → on a (drawn c s d) ≡ on s (drawn c s d) → Step c s a d
-  unfolding turned chosen optionAt
+  unfolding entryTurns chosen optionAt
   down-step d m q =
       let (h, _, u) = in-front c ok s (drawn c s d) m in
       let (o, n, near) = near-option (drawn c s d) m q in

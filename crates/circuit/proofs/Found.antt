@@ -14,7 +14,7 @@ use Rattle.circuit.specs.Evaluate.{Satisfying, KeepsCodes}
 use Rattle.circuit.specs.Survey.{cone, front}
 use Rattle.circuit.specs.Run.{answer}
 use Rattle.circuit.specs.Source001.{Cone}
-use Rattle.circuit.specs.Promise.{Answered, AnswerIs}
+use Rattle.circuit.specs.Promise.{FoundAnswer, AnswerIs}
 use Rattle.circuit.proofs.Gate.{laws}
 use Rattle.circuit.proofs.Evaluate.{values-configuration, values-input, values-obey, same-configuration}
 use Rattle.circuit.proofs.Cone.{justified-seen, cone-coded, cone-child, cone-justified}
@@ -25,7 +25,7 @@ module _ (c : Circuit) (ok : WellFormed c) (s : List ℕ) where
   abbrev kept : ℕ → Bool
   kept g = cone c s g and on s g
 
-  answered : Answered c s (answer c s)
+  answered : FoundAnswer c s (answer c s)
   unfolding answer
   answered = record {
     configuration = values-configuration c kept;
@@ -37,7 +37,7 @@ module _ (c : Circuit) (ok : WellFormed c) (s : List ℕ) where
     obeys = values-obey c kept ok;
   }
 
-  inputs-agree : (a : List ℕ) → Answered c s a → (g : ℕ) → g < c .gates → isInput (c .kind g) ≡ true → on a g ≡ on (answer c s) g
+  inputs-agree : (a : List ℕ) → FoundAnswer c s a → (g : ℕ) → g < c .gates → isInput (c .kind g) ≡ true → on a g ≡ on (answer c s) g
   inputs-agree a r g h i = elim (which (cone c s g)) [
     | inl q ↦ (let k = survey-is c ok s .cone-is g h .0 q in r .kept g h i k ∙ sym (answered .kept g h i k))
     | inr q ↦ (let n : ¬ Cone c s g = λ k. true≢false (sym (survey-is c ok s .cone-is g h .1 k) ∙ q) in r .others g h i n ∙ sym (answered .others g h i n))

@@ -17,9 +17,9 @@ use Rattle.circuit.specs.Circuit.{Circuit, coded, WellFormed, justified}
 use Rattle.circuit.specs.Evaluate.{KeepsCodes}
 use Rattle.circuit.specs.Survey.{front, frontSize, interestSize}
 use Rattle.circuit.specs.declared.Entry.{Entry}
-use Rattle.circuit.specs.Run.{drawn, downOptions, optionAt, turn, greedyOptions, chosen, turned}
+use Rattle.circuit.specs.Run.{drawn, downOptions, optionAt, turn, greedyOptions, chosen, entryTurns}
 use Rattle.circuit.specs.Source001.{OptionOf}
-use Rattle.circuit.specs.Promise.{NoFront, GreedyOptionsAre, DownTurns, Turns, EntryDone, MoveIs}
+use Rattle.circuit.specs.Promise.{NoFront, GreedyOptionsAre, DownTurns, ChoiceTurns, EntryDone, MoveIs}
 use Rattle.circuit.proofs.Lists.{select-in, in-select, select-same, all-in, in-all, least, in-length, some-isEmpty, isEmpty-none, pick-in, sub-length}
 use Rattle.circuit.proofs.Gate.{narrow}
 use Rattle.circuit.proofs.Cone.{unjustified-seen, in-front}
@@ -82,11 +82,11 @@ module _ (c : Circuit) (ok : WellFormed c) (s : List ℕ) (g : ℕ) (m : In g (f
 
   -- what the gates o are that a choice turns
   record Choosing (choice : Choice) (o : List ℕ) : Type 0 where
-    as-said : Turns c s g choice o
+    as-said : ChoiceTurns c s g choice o
     small : (1 ≤ length o) × (length o ≤ 8)
     turnable : Turnable c o
 
-  by-option : (choice : Choice) (o : List ℕ) → In o (downOptions c s g) → Turns c s g choice o → Choosing choice o
+  by-option : (choice : Choice) (o : List ℕ) → In o (downOptions c s g) → ChoiceTurns c s g choice o → Choosing choice o
   by-option choice o n w = record { as-said = w; small = option-small o n; turnable = option-turnable c ok s g inside unjust o n }
 
   picked : (i : ℕ) → In (optionAt c s g i) (downOptions c s g)
@@ -124,7 +124,7 @@ module _ (c : Circuit) (ok : WellFormed c) (s : List ℕ) where
   some-front e n = n (drawn c s 0) (survey-is c ok s .listed .has (drawn c s 0) .0 (drawn-in 0 e))
 
   pub entry-done : KeepsCodes c s → isEmpty (front c s) ≡ false → (e : Entry) → EntryDone c s e
-  unfolding turned drawn frontSize
+  unfolding entryTurns drawn frontSize
   entry-done k q e =
       let m = drawn-in (e .draw) q in
       let t = choosing c ok s (drawn c s (e .draw)) m (e .choice) in
@@ -132,11 +132,11 @@ module _ (c : Circuit) (ok : WellFormed c) (s : List ℕ) where
         draw-place = refl;
         in-front = survey-is c ok s .listed .has (drawn c s (e .draw)) .0 m;
         as-chosen = t .as-said;
-        turns = turn-turns c (turned c s e) s (t .turnable) (k .configuration);
+        turns = turn-turns c (entryTurns c s e) s (t .turnable) (k .configuration);
         counts = refl;
-        differs = turn-differs c (turned c s e) s (t .turnable) k;
+        differs = turn-differs c (entryTurns c s e) s (t .turnable) k;
         few = t .small;
-        keeps = keeps-turn c (turned c s e) s (t .turnable .free) k;
+        keeps = keeps-turn c (entryTurns c s e) s (t .turnable .free) k;
       }
 
 pub move-is : MoveIs

@@ -13,7 +13,7 @@ use Rattle.circuit.specs.Tools.{same}
 use Rattle.circuit.specs.Gate.{isInput, gives}
 use Rattle.circuit.specs.Circuit.{Circuit, WellFormed, Configuration, on, justified, GateZeroIsInput}
 use Rattle.circuit.specs.Run.{downOptions, turn}
-use Rattle.circuit.specs.Source001.{Extends, contrary, MoveOf, Smallest, first, then, IsClosed, SmallestIs, Turned, JustifiedIs001, RelevantIs001, OptionsAre001, OptionsInOrder, DownOptionsAre001, DownOptionsInOrder, Justifies, OptionsJustify}
+use Rattle.circuit.specs.Source001.{Extends, contrary, MoveOf, Smallest, first, then, IsClosed, SmallestIs, TurnsExactly, JustifiedIs001, RelevantIs001, OptionsAre001, OptionsInOrder, DownOptionsAre001, DownOptionsInOrder, Justifies, OptionsJustify}
 use Rattle.circuit.proofs.Values.{opposite, same-true, same-false}
 use Rattle.circuit.proofs.Lists.{at-place, select-in, in-select}
 use Rattle.circuit.proofs.Justification.{restrict-has, restrict-justifies}
@@ -71,7 +71,7 @@ module _ (c : Circuit) (ok : WellFormed c) (s : List ℕ) (k : Configuration c s
   move : MoveOf (gives (c .kind g)) (c .kids g) (on s g) (on s) o
   move = down-options-are c ok s g h u .0 o .0 m
 
-  turns : Turned o s (turn o s)
+  turns : TurnsExactly o s (turn o s)
   turns = turn-turns c o s (option-turnable c ok s g h u o m) k
 
   stands : (x : ℕ) → ¬ In x o → on (turn o s) x ≡ on s x

@@ -13,7 +13,7 @@ use Rattle.circuit.specs.Circuit.{Circuit, WellFormed}
 use Rattle.circuit.specs.Evaluate.{KeepsCodes, differ}
 use Rattle.circuit.specs.Survey.{front, frontSize}
 use Rattle.circuit.specs.declared.Entry.{Entry}
-use Rattle.circuit.specs.Run.{move, Ended, stop, after, run}
+use Rattle.circuit.specs.Run.{move, RunResult, stop, after, run}
 use Rattle.circuit.specs.Promise.{NoFront, EntryDone, config, Promised, Demand2OnCircuits}
 use Rattle.circuit.proofs.Found.{answer-is, answer-satisfies}
 use Rattle.circuit.proofs.Gate.{functions}
@@ -75,7 +75,7 @@ module _ (c : Circuit) (ok : WellFormed c) (s : List ℕ) (k : KeepsCodes c s) w
       none-empty zero h n = some-front c ok s e n
       none-empty (suc i) h n = absurd (omega arith)
 
-  one-more : (e : Entry) (es : List Entry) (r : Ended) → isEmpty (front c s) ≡ false
+  one-more : (e : Entry) (es : List Entry) (r : RunResult) → isEmpty (front c s) ≡ false
       → Promised c (move c s e .next) es (config c (move c s e .next) es) r → Promised c s (e ∷ es) (config c s (e ∷ es)) (after (move c s e .flips) r)
   one-more e es r q p = record {
     start = refl;

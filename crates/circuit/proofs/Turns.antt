@@ -15,7 +15,7 @@ use Rattle.folds.proofs.Tests.{which}
 use Rattle.circuit.specs.Tools.{byte, Rising, upTo}
 use Rattle.circuit.specs.Circuit.{Circuit, isSome, coded, WellFormed, Configuration, on, justified}
 use Rattle.circuit.specs.Evaluate.{KeepsCodes, differ}
-use Rattle.circuit.specs.Source001.{Turned}
+use Rattle.circuit.specs.Source001.{TurnsExactly}
 use Rattle.circuit.specs.Run.{downOptions, turn}
 use Rattle.circuit.proofs.Values.{byte-bit, on-byte, bit-byte, bit-turned}
 use Rattle.circuit.proofs.Lists.{sub-in, sub-rising, upTo-in, length-upTo, rising-upTo, select-none, select-length, select-less, select-zero}
@@ -119,7 +119,7 @@ module _ (c : Circuit) (a : List ℕ) (ka : Configuration c a) where
       later : Turnable c o
       later = record { rising = t .rising .1; inside = λ y m. t .inside y (there m); free = λ y m. t .free y (there m) }
 
-pub turn-turns : (c : Circuit) (o s : List ℕ) → Turnable c o → Configuration c s → Turned o s (turn o s)
+pub turn-turns : (c : Circuit) (o s : List ℕ) → Turnable c o → Configuration c s → TurnsExactly o s (turn o s)
 turn-turns c o s t k = record { these = λ x i. turn-in o s x (t .rising) (rw (k .long) (t .inside x i)) i; others = turn-out o s }
 
 -- as many bytes differ as are turned

@@ -15,7 +15,7 @@ use Rattle.circuit.specs.Circuit.{Circuit, WellFormed}
 use Rattle.circuit.specs.Evaluate.{rowOf, evaluate, mark, KeepsCodes, differ}
 use Rattle.circuit.specs.Survey.{survey, frontSize, interestSize}
 use Rattle.circuit.specs.declared.Entry.{Entry}
-use Rattle.circuit.specs.Run.{downOptions, turn, turned, move, stop, run, answer}
+use Rattle.circuit.specs.Run.{downOptions, turn, entryTurns, move, stop, run, answer}
 
 -- ---- circuits
 
@@ -169,22 +169,22 @@ pub record Examples : Type 0 where
   pub xor-options : (downOptions adder A 3 ≡ one 0 ∷ one 1 ∷ []) × (downOptions adder A 6 ≡ one 2 ∷ one 3 ∷ [])
   -- The draw is modulo the front's size, here 3, and the option modulo the number of options (P4: option 3 as option 1 of two).
   pub drawn-gate : (move nots ones (drawing 4) .gate ≡ 4) × (move nots ones (drawing 65535) .gate ≡ 3)
-  pub drawn-turns : (turned nots ones (drawing 3) ≡ one 0) × (turned nots ones (drawing 4) ≡ one 1) × (turned nots ones (drawing 5) ≡ one 2)
-  pub option-wraps : (turned adder A (entry (Down 2)) ≡ one 0) × (turned adder A (entry (Down 3)) ≡ one 1)
+  pub drawn-turns : (entryTurns nots ones (drawing 3) ≡ one 0) × (entryTurns nots ones (drawing 4) ≡ one 1) × (entryTurns nots ones (drawing 5) ≡ one 2)
+  pub option-wraps : (entryTurns adder A (entry (Down 2)) ≡ one 0) × (entryTurns adder A (entry (Down 3)) ≡ one 1)
   -- P7: up on a coded gate acts as down, with its option: gate 5 turns and not gate 7.
-  pub up-on-coded : turned adder C (entry (Up 1)) ≡ one 5
+  pub up-on-coded : entryTurns adder C (entry (Up 1)) ≡ one 5
   -- P5: up on an uncoded gate turns it, whatever its option byte is.
-  pub up-on-uncoded : (turned adder A (entry (Up 0)) ≡ one 3) × (turned adder A (entry (Up 1)) ≡ one 3)
+  pub up-on-uncoded : (entryTurns adder A (entry (Up 0)) ≡ one 3) × (entryTurns adder A (entry (Up 1)) ≡ one 3)
   pub up-turns : move adder A (entry (Up 0)) .next ≡ 0 ∷ 0 ∷ 1 ∷ 0 ∷ 0 ∷ 1 ∷ 0 ∷ 1 ∷ []
   pub up-survey : survey adder (move adder A (entry (Up 0)) .next) ≡ 4 ∷ 4 ∷ 4 ∷ 4 ∷ 0 ∷ 7 ∷ 0 ∷ 1 ∷ []
   -- P6: greedy turns gate 4, with 3 interesting gates then; gate 5 would give 5. There is no tie: option 1 is option 0.
   pub greedy-interest : (interestSize adder (turn (one 4) C) ≡ 3) × (interestSize adder (turn (one 5) C) ≡ 5)
-  pub greedy-turns : (turned adder C (entry (Greedy 0)) ≡ one 4) × (turned adder C (entry (Greedy 1)) ≡ one 4)
+  pub greedy-turns : (entryTurns adder C (entry (Greedy 0)) ≡ one 4) × (entryTurns adder C (entry (Greedy 1)) ≡ one 4)
   -- Where options tie, greedy's option is modulo the number of ties: of two options, of three, and two of three (interest 0, 3, 0).
-  pub greedy-ties : (turned adder A (entry (Greedy 1)) ≡ one 1) × (turned adder A (entry (Greedy 2)) ≡ one 0)
-  pub greedy-wraps : turned three (0 ∷ 0 ∷ 0 ∷ 1 ∷ []) (entry (Greedy 5)) ≡ one 2
+  pub greedy-ties : (entryTurns adder A (entry (Greedy 1)) ≡ one 1) × (entryTurns adder A (entry (Greedy 2)) ≡ one 0)
+  pub greedy-wraps : entryTurns three (0 ∷ 0 ∷ 0 ∷ 1 ∷ []) (entry (Greedy 5)) ≡ one 2
   pub greedy-some-tie :
-      (turned tie (0 ∷ 0 ∷ 0 ∷ 0 ∷ 1 ∷ []) (entry (Greedy 1)) ≡ one 3) × (turned tie (0 ∷ 0 ∷ 0 ∷ 0 ∷ 1 ∷ []) (entry (Greedy 2)) ≡ one 0)
+      (entryTurns tie (0 ∷ 0 ∷ 0 ∷ 0 ∷ 1 ∷ []) (entry (Greedy 1)) ≡ one 3) × (entryTurns tie (0 ∷ 0 ∷ 0 ∷ 0 ∷ 1 ∷ []) (entry (Greedy 2)) ≡ one 0)
   -- The front is tested before the first move, also where there is no entry (P8, P10), and after the last (P3).
   pub found-without-entry : run adder B [] ≡ stop Found B
   pub found-without-code : run uncoded (one 1) [] ≡ stop Found (one 1)

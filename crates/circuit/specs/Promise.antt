@@ -15,8 +15,8 @@ use Rattle.circuit.specs.Circuit.{Circuit, coded, WellFormed, Configurat
 use Rattle.circuit.specs.Evaluate.{Obeys, Satisfying, Satisfiable, KeepsCodes, differ}
 use Rattle.circuit.specs.Survey.{front, frontSize, interestSize}
 use Rattle.circuit.specs.declared.Entry.{Entry}
-use Rattle.circuit.specs.Run.{downOptions, turn, greedyOptions, turned, move, Ended, run, answer}
-use Rattle.circuit.specs.Source001.{OptionOf, Cone, Front, Turned, Size, Functions, JustifiedIs001, RelevantIs001, DownOptionsAre001, DownOptionsInOrder, OptionsJustify, InputsInOrder, DifferIs, SurveyIs001}
+use Rattle.circuit.specs.Run.{downOptions, turn, greedyOptions, entryTurns, move, RunResult, run, answer}
+use Rattle.circuit.specs.Source001.{OptionOf, Cone, Front, TurnsExactly, Size, Functions, JustifiedIs001, RelevantIs001, DownOptionsAre001, DownOptionsInOrder, OptionsJustify, InputsInOrder, DifferIs, SurveyIs001}
 
 abbrev pub NoFront : Circuit → List ℕ → Type 0
 NoFront c s = (g : ℕ) → ¬ Front c s g
@@ -46,10 +46,10 @@ pub record GreedyTurns (c : Circuit) (s : List ℕ) (g i : ℕ) (o : List ℕ) :
   pub option-place : StandsAt (greedyOptions c s (downOptions c s g)) i o
 
 -- the gates o that a choice turns where gate g is drawn
-abbrev pub Turns : Circuit → List ℕ → ℕ → Choice → List ℕ → Type 0
-Turns c s g (Greedy i) o = GreedyTurns c s g i o
-Turns c s g (Down i) o = DownTurns c s g i o
-Turns c s g (Up i) o = ((coded c g ≡ true) × DownTurns c s g i o) ⊎ ((coded c g ≡ false) × (o ≡ g ∷ []))
+abbrev pub ChoiceTurns : Circuit → List ℕ → ℕ → Choice → List ℕ → Type 0
+ChoiceTurns c s g (Greedy i) o = GreedyTurns c s g i o
+ChoiceTurns c s g (Down i) o = DownTurns c s g i o
+ChoiceTurns c s g (Up i) o = ((coded c g ≡ true) × DownTurns c s g i o) ⊎ ((coded c g ≡ false) × (o ≡ g ∷ []))
 
 -- What an entry does.
 --     draw-place, in-front    it draws a gate of the front by its place
@@ -60,9 +60,9 @@ Turns c s g (Up i) o = ((coded c g ≡ true) × DownTurns c s g i o) ⊎ ((coded
 pub record EntryDone (c : Circuit) (s : List ℕ) (e : Entry) : Type 0 where
   pub draw-place : move c s e .gate ≡ getD (front c s) (e .draw % frontSize c s) 0
   pub in-front : Front c s (move c s e .gate)
-  pub as-chosen : Turns c s (move c s e .gate) (e .choice) (turned c s e)
-  pub turns : Turned (turned c s e) s (move c s e .next)
-  pub counts : move c s e .flips ≡ length (turned c s e)
+  pub as-chosen : ChoiceTurns c s (move c s e .gate) (e .choice) (entryTurns c s e)
+  pub turns : TurnsExactly (entryTurns c s e) s (move c s e .next)
+  pub counts : move c s e .flips ≡ length (entryTurns c s e)
   pub differs : differ c s (move c s e .next) ≡ move c s e .flips
   pub few : (1 ≤ move c s e .flips) × (move c s e .flips ≤ 8)
   pub keeps : KeepsCodes c (move c s e .next)
@@ -73,7 +73,7 @@ MoveIs = (c : Circuit) → WellFormed c → (s : List ℕ) → KeepsCodes c s �
 -- ---- the answer of Found
 
 -- "inputs in the cone keep their values, all other inputs are 0, other gates are evaluated"
-pub record Answered (c : Circuit) (s a : List ℕ) : Type 0 where
+pub record FoundAnswer (c : Circuit) (s a : List ℕ) : Type 0 where
   pub configuration : Configuration c a
   pub kept : (g : ℕ) → g < c .gates → isInput (c .kind g) ≡ true → Cone c s g → on a g ≡ on s g
   pub others : (g : ℕ) → g < c .gates → isInput (c .kind g) ≡ true → ¬ Cone c s g → on a g ≡ false
@@ -81,7 +81,7 @@ pub record Answered (c : Circuit) (s a : List ℕ) : Type 0 where
 
 -- There is one such configuration, and `answer` is it.
 abbrev pub AnswerIs : Type 0
-AnswerIs = (c : Circuit) → WellFormed c → (s : List ℕ) → Answered c s (answer c s) × ((a : List ℕ) → Answered c s a → a ≡ answer c s)
+AnswerIs = (c : Circuit) → WellFormed c → (s : List ℕ) → FoundAnswer c s (answer c s) × ((a : List ℕ) → FoundAnswer c s a → a ≡ answer c s)
 
 -- ---- demand 2
 
@@ -108,7 +108,7 @@ differences c t (suc n) = differ c (t 0) (t 1) + differences c (λ i. t (suc i))
 --     flips              sums the gates at which the configurations changed
 --     last, keeps        "After either ending the configuration is the last one", which keeps the codes
 --     shows              what Found writes obeys every gate and shows every code
-pub record Promised (c : Circuit) (s : List ℕ) (es : List Entry) (t : ℕ → List ℕ) (r : Ended) : Type 0 where
+pub record Promised (c : Circuit) (s : List ℕ) (es : List Entry) (t : ℕ → List ℕ) (r : RunResult) : Type 0 where
   pub start : t 0 ≡ s
   pub moved : (d : Entry) (i : ℕ) → i < r .outcome .moves → EntryDone c (t i) (getD es i d) × (t (suc i) ≡ move c (t i) (getD es i d) .next)
   pub found : (r .outcome .ending ≡ Found) ↔ ((i : ℕ) × (i ≤ length es) × NoFront c (t i) × ((j : ℕ) → j < i → ¬ NoFront c (t j)))

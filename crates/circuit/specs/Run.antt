@@ -56,31 +56,31 @@ chosen c s g (Down i) = optionAt c s g i
 chosen c s g (Up i) = cond (coded c g) (optionAt c s g i) (g ∷ [])
 
 -- the gates that an entry turns
-unfoldable pub turned : Circuit → List ℕ → Entry → List ℕ
-turned c s e = chosen c s (drawn c s (e .draw)) (e .choice)
+unfoldable pub entryTurns : Circuit → List ℕ → Entry → List ℕ
+entryTurns c s e = chosen c s (drawn c s (e .draw)) (e .choice)
 
 -- "Move does one entry and returns the drawn gate and how many values it turned (1 to 8). The lent configuration is then the new one"
-pub record Made : Type 0 where
+pub record MoveResult : Type 0 where
   pub gate : ℕ
   pub flips : ℕ
   pub next : List ℕ
 
-abbrev pub move : Circuit → List ℕ → Entry → Made
-move c s e = record { gate = drawn c s (e .draw); flips = length (turned c s e); next = turn (turned c s e) s }
+abbrev pub move : Circuit → List ℕ → Entry → MoveResult
+move c s e = record { gate = drawn c s (e .draw); flips = length (entryTurns c s e); next = turn (entryTurns c s e) s }
 
 -- ---- Run
 
 -- "A run's answer is one record: its ending, its moves and its flips", here beside the last configuration
-pub record Ended : Type 0 where
+pub record RunResult : Type 0 where
   pub outcome : Outcome
   pub last : List ℕ
 
 -- a run that ends at s without an entry done
-abbrev pub stop : Ending → List ℕ → Ended
+abbrev pub stop : Ending → List ℕ → RunResult
 stop e s = record { outcome = record { ending = e; moves = 0; flips = 0 }; last = s }
 
 -- "Moves is the number of entries done, flips the sum of values turned.": a run whose first entry turned k values and which goes on as r
-abbrev pub after : ℕ → Ended → Ended
+abbrev pub after : ℕ → RunResult → RunResult
 after k r = record {
   outcome = record { ending = r .outcome .ending; moves = suc (r .outcome .moves); flips = k + r .outcome .flips };
   last = r .last;
@@ -89,7 +89,7 @@ after k r = record {
 -- "Run repeats: survey; if the front is empty, end Found; if the tape is used up, end Spent; else do the next entry." "Spent also carries the
 -- front's size." (Refused is not an ending of a run on a circuit: calls that are declined run nothing.
 -- `elim` stands where `cond` would have antt compute a move that is not made.)
-unfoldable pub run : Circuit → List ℕ → List Entry → Ended
+unfoldable pub run : Circuit → List ℕ → List Entry → RunResult
 run c s [] = cond (isEmpty (front c s)) (stop Found s) (stop (Spent (frontSize c s)) s)
 run c s (e ∷ es) = elim (isEmpty (front c s)) [
   | true ↦ stop Found s

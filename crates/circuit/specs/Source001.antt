@@ -187,13 +187,13 @@ DownOptionsInOrder =
     → (downOptions c s g ≡ wrong (on s g) (on s) (c .kids g) ∷ []) ⊎ (downOptions c s g ≡ singles (c .kids g))
 
 -- from s to t the gates o have turned, and no other byte is another
-pub record Turned (o s t : List ℕ) : Type 0 where
+pub record TurnsExactly (o s t : List ℕ) : Type 0 where
   pub these : (x : ℕ) → In x o → on t x ≡ not (on s x)
   pub others : (x : ℕ) → ¬ In x o → getD t x 0 ≡ getD s x 0
 
 -- Each option makes its gate justified, which keeps its value.
 pub record Justifies (c : Circuit) (s : List ℕ) (g : ℕ) (o : List ℕ) : Type 0 where
-  pub turns : Turned o s (turn o s)
+  pub turns : TurnsExactly o s (turn o s)
   pub not-itself : ¬ In g o
   pub justified : Justified c (turn o s) g
 

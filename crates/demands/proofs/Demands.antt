@@ -15,7 +15,7 @@ use Rattle.circuit.specs.declared.Entry.{Entry}
 use Rattle.circuit.specs.Circuit.{WellFormed}
 use Rattle.circuit.specs.Evaluate.{Satisfying, KeepsCodes, differ}
 use Rattle.circuit.specs.Survey.{survey}
-use Rattle.circuit.specs.Run.{Ended, run, answer}
+use Rattle.circuit.specs.Run.{RunResult, run, answer}
 use Rattle.circuit.specs.Promise.{config, Promised, FinishingTape}
 use Rattle.circuit.proofs.Values.{bit-same}
 use Rattle.circuit.proofs.Evaluate.{row-is, row-first, evaluate-again}
@@ -35,7 +35,7 @@ use Rattle.state.proofs.Over.{over-first, over-rest, over-long}
 use Rattle.state.proofs.Meaning.{evaluate-writes, evaluate-accepts, evaluate-number, evaluate-declines, mark-says, mark-accepts, mark-number, mark-declines}
 use Rattle.survey.proofs.Meaning.{survey-writes, survey-accepts, survey-number, survey-declines}
 use Rattle.tape.specs.Tape.{mostEntries, entries}
-use Rattle.search.specs.Run.{tapeTests, runTests, Told, told, answered, ran, runningBy, running, Room, Runnable}
+use Rattle.search.specs.Run.{tapeTests, runTests, EndingValues, told, answerMemory, runEnded, runBy, runEffect, Room, Runnable}
 use Rattle.search.proofs.Runs.{survey-length, answer-length}
 use Rattle.search.proofs.Endings.{run-ends}
 use Rattle.demands.specs.Demands.{Satisfies, FoundWrites, RunMeans, Demand1, Demand2, SameRun, SameForAllMemories, AreDraws, Way, Plain, tapeOf, Finishing, Demand3}
@@ -82,13 +82,13 @@ shown m k a rest w r h =
     ∙ bit-same (getD a (codeGate m r) 0) (codeValue m r) (w .configuration .bits (codeGate m r)) (k .code-values r h) v
 
 -- what is not Found leaves the answer memory
-not-answered : (e : Ending) (x ans : List ℕ) → ¬ (e ≡ Found) → answered e x ans ≡ ans
+not-answered : (e : Ending) (x ans : List ℕ) → ¬ (e ≡ Found) → answerMemory e x ans ≡ ans
 not-answered Found x ans n = absurd (n refl)
 not-answered (Spent f) x ans n = refl
 not-answered (Refused k) x ans n = refl
 
 module _ (m s tape work ans : List ℕ) (a : Runnable m s tape work ans) where
-  abbrev end : Ended
+  abbrev end : RunResult
   end = run (circuit m) s (entries tape)
 
   ok : WellFormed (circuit m)
@@ -115,10 +115,10 @@ module _ (m s tape work ans : List ℕ) (a : Runnable m s tape work ans) where
   bounds : (end .outcome .moves ≤ mostEntries) × ((end .outcome .flips ≤ 8 * end .outcome .moves) × (told (end .outcome .ending) .front ≤ mostGates))
   bounds =
       let (i, j) = run-few (circuit m) ok s (a .start) (entries tape) in
-      let f = ap (λ (t : Told). t .front) (run-ends (circuit m) s (entries tape)) in
+      let f = ap (λ (t : EndingValues). t .front) (run-ends (circuit m) s (entries tape)) in
       (omega (arith, i, entries-length tape (a .whole-entries), a .not-longer), (j, omega (arith, f, front-few (circuit m) (end .last), facts m (a .accepted) .sound .placed .shaped .few)))
 
-  means : RunMeans m s tape work ans (ran (circuit m) end work ans)
+  means : RunMeans m s tape work ans (runEnded (circuit m) end work ans)
   means =
       let l = survey-length (circuit m) (end .last) in
       record {
@@ -136,7 +136,7 @@ module _ (m s tape work ans : List ℕ) (a : Runnable m s tape work ans) where
         not-found = not-answered (end .outcome .ending) (answer (circuit m) (end .last)) ans;
       }
 
-run-means : (m s tape work ans : List ℕ) → running m s tape work ans .told .accepted ≡ true → RunMeans m s tape work ans (running m s tape work ans)
+run-means : (m s tape work ans : List ℕ) → runEffect m s tape work ans .told .accepted ≡ true → RunMeans m s tape work ans (runEffect m s tape work ans)
 run-means m s tape work ans e = let n = none m s tape work ans e in rw (written m s tape work ans n) (means m s tape work ans (runnable m s tape work ans n))
 
 pub demand2 : Demand2
@@ -159,7 +159,7 @@ module _ (m s tape work ans work' ans' : List ℕ) where
   same-tests r r' = rw (of-room m work ans r, of-room m work' ans' r')
 
   -- two accepted calls, and two calls with the same number
-  same-ran : (r : Ended) → SameRun m (ran (circuit m) r work ans) (ran (circuit m) r work' ans')
+  same-ran : (r : RunResult) → SameRun m (runEnded (circuit m) r work ans) (runEnded (circuit m) r work' ans')
   same-ran r =
       let l = survey-length (circuit m) (r .last) in
       let k = answer-length (circuit m) (r .last) in
@@ -170,23 +170,23 @@ module _ (m s tape work ans work' ans' : List ℕ) where
         answered = λ e. rw e (over-first (answer (circuit m) (r .last)) ans (gateCount m) k ∙ sym (over-first (answer (circuit m) (r .last)) ans' (gateCount m) k));
       }
 
-  same-by : (n : ℕ) → SameRun m (runningBy n m s tape work ans) (runningBy n m s tape work' ans')
-  unfolding runningBy
+  same-by : (n : ℕ) → SameRun m (runBy n m s tape work ans) (runBy n m s tape work' ans')
+  unfolding runBy
   same-by n = elim (which (eqb n 0)) [
     | inl q ↦ rw q (same-ran (run (circuit m) s (entries tape)))
     | inr q ↦ rw q (record { outcome = refl; configuration = refl; surveyed = λ e. absurd (false≢true e); answered = λ e. absurd (true≢false (sym (ap (λ (x : Ending). told x .accepted) e))) })
   ]
 
 pub same-for-all-memories : SameForAllMemories
-unfolding running
+unfolding runEffect
 same-for-all-memories m s tape work ans work' ans' r r' =
     rw (same-tests m s tape work ans work' ans' r r') (same-by m s tape work ans work' ans' (firstFailed (mapTests m ++ runTests m s tape work' ans')))
 
 -- ---- demand 3
 
 -- what Found leaves in the answer memory satisfies the map
-only : (m s tape work ans : List ℕ) → running m s tape work ans .outcome .ending ≡ Found → (a : List ℕ) × Satisfies m a
-only m s tape work ans f = (take (gateCount m) (running m s tape work ans .answer), run-means m s tape work ans (found-accepted m s tape work ans f) .found f .marked)
+only : (m s tape work ans : List ℕ) → runEffect m s tape work ans .outcome .ending ≡ Found → (a : List ℕ) × Satisfies m a
+only m s tape work ans f = (take (gateCount m) (runEffect m s tape work ans .answer), run-means m s tape work ans (found-accepted m s tape work ans f) .found f .marked)
 
 module _ (m s : List ℕ) (v : verdict m ≡ 0) (k : KeepsCodes (circuit m) s) where
   -- a tape of entries that ends Found, as bytes
@@ -216,7 +216,7 @@ module _ (m s : List ℕ) (v : verdict m ≡ 0) (k : KeepsCodes (circuit m) s) w
       room = r;
     }
 
-    runs : (work ans : List ℕ) → Room m work ans → running m s (tapeOf ds ways) work ans ≡ ran (circuit m) (run (circuit m) s (f .tape)) work ans
+    runs : (work ans : List ℕ) → Room m work ans → runEffect m s (tapeOf ds ways) work ans ≡ runEnded (circuit m) (run (circuit m) s (f .tape)) work ans
     runs work ans r = written m s (tapeOf ds ways) work ans (of-runnable m s (tapeOf ds ways) work ans (can-run work ans r)) ∙ rw reads
 
     finishing : Finishing m s ds n

@@ -20,7 +20,7 @@ use Rattle.map.specs.Map.{mostGates, u16At, gateCount, kindByte}
 use Rattle.map.specs.Check.{Shaped, verdict}
 use Rattle.map.proofs.Accepted.{facts}
 use Rattle.map.proofs.Answers.{behind-declined}
-use Rattle.search.specs.Run.{runTests, runningBy, running, Room}
+use Rattle.search.specs.Run.{runTests, runBy, runEffect, Room}
 use Rattle.demands.proofs.Demands.{same-for-all-memories}
 use Rattle.line.specs.Text.{decimalIn, readOn, readDecimal, DecimalReads}
 use Rattle.line.specs.Line.{mostInput, inputRoom, tapeAt, mapPart, configurationPart, tapePart, inputTest, lent, rowText, report, runLine, lineOf, inputOf, ExactInput, SameLineForAllMemories, TooLong, NotExact, CutInput, lineRoom, LineFits}
@@ -57,15 +57,15 @@ same-report (Refused number) moves flips m a b h = refl
 
 module _ (m s tape work ans : List ℕ) where
   -- on an accepted map the memories that the program lends are long enough; on any other the memories aren't tested
-  same-accepted : verdict m ≡ 0 → Room m work ans → runLine m (running m s tape work ans) ≡ runLine m (running m s tape lent lent)
+  same-accepted : verdict m ≡ 0 → Room m work ans → runLine m (runEffect m s tape work ans) ≡ runLine m (runEffect m s tape lent lent)
   unfolding lent
   same-accepted v r =
       let l : gateCount m ≤ mostGates = facts m v .sound .placed .shaped .few in
       let q = same-for-all-memories m s tape work ans lent lent r (record { work-room = l; answer-room = l }) in
       same-report _ _ _ m _ _ (q .answered) ∙ rw (q .outcome)
 
-  same-declined : (verdict m ≡ 0 → ⊥) → runLine m (running m s tape work ans) ≡ runLine m (running m s tape lent lent)
-  unfolding running runningBy
+  same-declined : (verdict m ≡ 0 → ⊥) → runLine m (runEffect m s tape work ans) ≡ runLine m (runEffect m s tape lent lent)
+  unfolding runEffect runBy
   same-declined v = rw (behind-declined m (runTests m s tape work ans) v, behind-declined m (runTests m s tape lent lent) v, ne-eqb (verdict m) 0 v)
 
 pub same-line-for-all-memories : SameLineForAllMemories

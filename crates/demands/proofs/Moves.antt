@@ -27,7 +27,7 @@ use Rattle.state.proofs.Over.{over-first, over-rest, over-long}
 use Rattle.state.proofs.Meaning.{behind}
 use Rattle.survey.proofs.Starts.{behind-start, of-start, start-number}
 use Rattle.tape.specs.Tape.{entryAt, kindsTest}
-use Rattle.search.specs.Move.{frontTest, entryTests, moveTests, movingBy, moving, MoveWrites, Movable, MoveAccepts, MoveNumber, MoveDeclines}
+use Rattle.search.specs.Move.{frontTest, entryTests, moveTests, moveBy, moveEffect, MoveDoes, Movable, MoveAccepts, MoveNumber, MoveRefuses}
 use Rattle.search.proofs.Passed.{move-passed, early-none, early-passes}
 use Rattle.demands.proofs.Tapes.{entry-read}
 
@@ -46,22 +46,22 @@ module _ (m s entry work : List ℕ) where
   abbrev number : ℕ
   number = firstFailed (mapTests m ++ moveTests m s entry work)
 
-  none : moving m s entry work .accepted ≡ true → number ≡ 0
-  unfolding moving movingBy
+  none : moveEffect m s entry work .accepted ≡ true → number ≡ 0
+  unfolding moveEffect moveBy
   none e = elim (which (eqb number 0)) [
     | inl q ↦ eqb-true number 0 q
     | inr q ↦ absurd (false≢true (rw q at e))
   ]
 
-  number-is : moving m s entry work .number ≡ number
-  unfolding moving movingBy
+  number-is : moveEffect m s entry work .number ≡ number
+  unfolding moveEffect moveBy
   number-is = elim (which (eqb number 0)) [
     | inl q ↦ rw q (sym (eqb-true number 0 q))
     | inr q ↦ rw q refl
   ]
 
-  accepted : number ≡ 0 → moving m s entry work .accepted ≡ true
-  unfolding moving movingBy
+  accepted : number ≡ 0 → moveEffect m s entry work .accepted ≡ true
+  unfolding moveEffect moveBy
   accepted e = rw (eq-eqb number 0 e)
 
   -- a kind, as the test of a tape of one entry sees it
@@ -94,7 +94,7 @@ module _ (m s entry work : List ℕ) where
       ∙ past _ _ _ (of-front m s (facts m (a .accepted)) (a .some-front))
       ∙ no-test
 
-  written : number ≡ 0 → moving m s entry work ≡ record {
+  written : number ≡ 0 → moveEffect m s entry work ≡ record {
     accepted = true;
     number = 0;
     gate = move (circuit m) s (entryAt entry 0) .gate;
@@ -102,10 +102,10 @@ module _ (m s entry work : List ℕ) where
     configuration = move (circuit m) s (entryAt entry 0) .next;
     work = over (survey (circuit m) (move (circuit m) s (entryAt entry 0) .next)) work;
   }
-  unfolding moving movingBy
+  unfolding moveEffect moveBy
   written e = rw (eq-eqb number 0 e)
 
-pub move-writes : MoveWrites
+pub move-writes : MoveDoes
 move-writes m s entry work e =
     let n = none m s entry work e in
     let a = movable m s entry work n in
@@ -133,7 +133,7 @@ move-accepts m s entry work = (λ e. movable m s entry work (none m s entry work
 pub move-number : MoveNumber
 unfolding moveTests entryTests frontTest
 move-number m s entry work =
-    let n = moving m s entry work .number in
+    let n = moveEffect m s entry work .number in
     map-number m _ n _ (number-is m s entry work) λ v e.
     start-number m s _ n _ (facts m v) e λ e11.
     tested 12 _ _ n _ _ e11 (eqb-true _ _) (eq-eqb _ _) λ q12 e12.
@@ -142,8 +142,8 @@ move-number m s entry work =
     tested 15 _ _ n _ _ e14 (front-of m s (facts m v)) (of-front m s (facts m v)) λ q15 e15.
     e15 ∙ no-test
 
-pub move-declines : MoveDeclines
-unfolding moving movingBy
+pub move-declines : MoveRefuses
+unfolding moveEffect moveBy
 move-declines m s entry work e = elim (which (eqb (number m s entry work) 0)) [
   | inl q ↦ absurd (true≢false (rw q at e))
   | inr q ↦ rw q (record { numbered = eqb-false (number m s entry work) 0 q; zeros = (refl, refl); untouched = (refl, refl) })

@@ -30,7 +30,7 @@ use Rattle.map.proofs.Described.{tested, map-number}
 use Rattle.state.proofs.Meaning.{behind}
 use Rattle.survey.proofs.Starts.{behind-start, of-start, start-number}
 use Rattle.tape.specs.Tape.{mostTape, entries, tapeTest}
-use Rattle.search.specs.Run.{tapeTests, runTests, Told, told, ran, runningBy, running, Room, Runnable, RunAccepts, RunNumber, RunDeclines}
+use Rattle.search.specs.Run.{tapeTests, runTests, EndingValues, told, runEnded, runBy, runEffect, Room, Runnable, RunAccepts, RunNumber, RunRefuses}
 use Rattle.search.proofs.Passed.{room-of, run-passed}
 use Rattle.search.proofs.Endings.{run-ends}
 use Rattle.demands.proofs.Tapes.{kinds-of, of-kinds}
@@ -54,33 +54,33 @@ module _ (m s tape work ans : List ℕ) where
   abbrev number : ℕ
   number = firstFailed (mapTests m ++ runTests m s tape work ans)
 
-  pub written : number ≡ 0 → running m s tape work ans ≡ ran (circuit m) (run (circuit m) s (entries tape)) work ans
-  unfolding running runningBy
+  pub written : number ≡ 0 → runEffect m s tape work ans ≡ runEnded (circuit m) (run (circuit m) s (entries tape)) work ans
+  unfolding runEffect runBy
   written e = rw (eq-eqb number 0 e)
 
-  pub none : running m s tape work ans .told .accepted ≡ true → number ≡ 0
-  unfolding running runningBy
+  pub none : runEffect m s tape work ans .told .accepted ≡ true → number ≡ 0
+  unfolding runEffect runBy
   none e = elim (which (eqb number 0)) [
     | inl q ↦ eqb-true number 0 q
     | inr q ↦ absurd (false≢true (rw q at e))
   ]
 
-  pub found-accepted : running m s tape work ans .outcome .ending ≡ Found → running m s tape work ans .told .accepted ≡ true
-  unfolding running runningBy
+  pub found-accepted : runEffect m s tape work ans .outcome .ending ≡ Found → runEffect m s tape work ans .told .accepted ≡ true
+  unfolding runEffect runBy
   found-accepted f = elim (which (eqb number 0)) [
-    | inl q ↦ rw q (ap (λ (t : Told). t .accepted) (run-ends (circuit m) s (entries tape)))
+    | inl q ↦ rw q (ap (λ (t : EndingValues). t .accepted) (run-ends (circuit m) s (entries tape)))
     | inr q ↦ absurd (false≢true (ap (λ (e : Ending). told e .accepted) (rw q at f)))
   ]
 
-  number-is : running m s tape work ans .told .number ≡ number
-  unfolding running runningBy
+  number-is : runEffect m s tape work ans .told .number ≡ number
+  unfolding runEffect runBy
   number-is = elim (which (eqb number 0)) [
-    | inl q ↦ rw q (ap (λ (t : Told). t .number) (run-ends (circuit m) s (entries tape)) ∙ sym (eqb-true number 0 q))
+    | inl q ↦ rw q (ap (λ (t : EndingValues). t .number) (run-ends (circuit m) s (entries tape)) ∙ sym (eqb-true number 0 q))
     | inr q ↦ rw q refl
   ]
 
-  accepted : number ≡ 0 → running m s tape work ans .told .accepted ≡ true
-  accepted e = rw (written e) (ap (λ (t : Told). t .accepted) (run-ends (circuit m) s (entries tape)))
+  accepted : number ≡ 0 → runEffect m s tape work ans .told .accepted ≡ true
+  accepted e = rw (written e) (ap (λ (t : EndingValues). t .accepted) (run-ends (circuit m) s (entries tape)))
 
   -- what each test says
   pub runnable : number ≡ 0 → Runnable m s tape work ans
@@ -110,7 +110,7 @@ run-accepts m s tape work ans = (
 pub run-number : RunNumber
 unfolding runTests tapeTests tapeTest
 run-number m s tape work ans =
-    let n = running m s tape work ans .told .number in
+    let n = runEffect m s tape work ans .told .number in
     map-number m _ n _ (number-is m s tape work ans) λ v e.
     start-number m s _ n _ (facts m v) e λ e11.
     tested 12 _ _ n _ _ e11 (length-of tape) (of-length tape) λ q12 e12.
@@ -118,8 +118,8 @@ run-number m s tape work ans =
     tested 14 _ _ n _ _ e13 (room-of m work ans) (of-room m work ans) λ q14 e14.
     e14 ∙ no-test
 
-pub run-declines : RunDeclines
-unfolding running runningBy
+pub run-declines : RunRefuses
+unfolding runEffect runBy
 run-declines m s tape work ans e = elim (which (eqb (number m s tape work ans) 0)) [
   | inl q ↦ absurd (true≢false (sym (accepted m s tape work ans (eqb-true (number m s tape work ans) 0 q)) ∙ e))
   | inr q ↦ rw q (record { ending = refl; numbered = eqb-false (number m s tape work ans) 0 q; zeros = (refl, (refl, refl)); untouched = (refl, (refl, refl)) })

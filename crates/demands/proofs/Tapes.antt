@@ -16,7 +16,7 @@ use Rattle.circuit.specs.declared.Choice.the-variants.{Greedy, Down, Up}
 use Rattle.circuit.specs.declared.Entry.{Entry}
 use Rattle.circuit.specs.Promise.{NotGreedy, optionByte}
 use Rattle.map.specs.Map.{u16At}
-use Rattle.tape.specs.Tape.{choiceOf, entryAt, Says, EntryRead, entriesFrom, entries, kindsTest}
+use Rattle.tape.specs.Tape.{choiceOf, entryAt, ChoiceRead, EntryRead, entriesFrom, entries, kindsTest}
 use Rattle.demands.specs.Demands.{AreBytes, AreDraws, Way, Plain, tapeOf}
 
 -- ---- reading
@@ -46,7 +46,7 @@ module _ (t : List ℕ) where
   unfolding entryAt u16At
   entry-read at h = record { draw = refl; choice = says (getD t (at + 2) 0) (getD t (at + 3) 0) h }
     where
-      says : (k i : ℕ) → k ≤ 2 → Says (choiceOf k i) k i
+      says : (k i : ℕ) → k ≤ 2 → ChoiceRead (choiceOf k i) k i
       says zero i h = (refl, refl)
       says (suc zero) i h = (refl, refl)
       says (suc (suc zero)) i h = (refl, refl)

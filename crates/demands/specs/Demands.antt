@@ -1,4 +1,4 @@
--- Document 00's demands, on bytes: about the definitions that the calls' contracts cite. Demands 2 and 3 speak of `running`, Run's. Assumes nothing.
+-- Document 00's demands, on bytes: about the definitions that the calls' contracts cite. Demands 2 and 3 speak of `runEffect`, Run's. Assumes nothing.
 use Prim.Native.Nat.{ℕ, _*_, _/_, _%_, _≤_, _<_}
 use mathlib.Core.Path.{_≡_}
 use mathlib.Core.Bool.{true}
@@ -10,19 +10,19 @@ use Rattle.circuit.specs.Evaluate.{Row, rowOf, evaluate, KeepsCodes, differ}
 use Rattle.circuit.specs.Tools.{isEmpty}
 use Rattle.circuit.specs.Survey.{front, survey, frontSize}
 use Rattle.circuit.specs.Source001.{DifferIs}
-use Rattle.circuit.specs.Promise.{Answered, config, Promised, Demand2OnCircuits}
+use Rattle.circuit.specs.Promise.{FoundAnswer, config, Promised, Demand2OnCircuits}
 use Rattle.map.specs.Map.{mostGates, gateCount, codeCount, codeGate, codeValue, circuit}
-use Rattle.map.specs.Check.{verdict, MapAccepts, CheckNumber, CheckAccepts, CheckDeclines, CheckSays, AcceptedMaps}
-use Rattle.map.specs.Children.{StretchIs}
-use Rattle.state.specs.State.{marking, EvaluateWrites, EvaluateAccepts, EvaluateNumber, EvaluateDeclines, MarkSays, MarkAccepts, MarkNumber, MarkDeclines}
-use Rattle.survey.specs.Survey.{SurveyWrites, SurveyAccepts, SurveyNumber, SurveyDeclines}
+use Rattle.map.specs.Check.{verdict, MapAccepts, CheckNumber, CheckAccepts, CheckRefuses, CheckDoes, AcceptedMaps}
+use Rattle.map.specs.Children.{ChildrenDoes}
+use Rattle.state.specs.State.{markEffect, EvaluateDoes, EvaluateAccepts, EvaluateNumber, EvaluateRefuses, MarkDoes, MarkAccepts, MarkNumber, MarkRefuses}
+use Rattle.survey.specs.Survey.{SurveyDoes, SurveyAccepts, SurveyNumber, SurveyRefuses}
 use Rattle.tape.specs.Tape.{mostEntries, EntryRead, entries}
-use Rattle.search.specs.Move.{MoveWrites, MoveAccepts, MoveNumber, MoveDeclines}
-use Rattle.search.specs.Run.{Running, running, Room, RunAccepts, RunNumber, RunDeclines}
+use Rattle.search.specs.Move.{MoveDoes, MoveAccepts, MoveNumber, MoveRefuses}
+use Rattle.search.specs.Run.{RunEffect, runEffect, Room, RunAccepts, RunNumber, RunRefuses}
 
 -- "Such a configuration is a satisfying assignment.": one to which Mark says yes
 abbrev pub Satisfies : List ℕ → List ℕ → Type 0
-Satisfies m a = marking m a .yes ≡ true
+Satisfies m a = markEffect m a .yes ≡ true
 
 -- ---- demand 1
 
@@ -33,26 +33,26 @@ Satisfies m a = marking m a .yes ≡ true
 pub record Demand1 : Type 0 where
   pub check-number : CheckNumber
   pub check-accepts : CheckAccepts
-  pub check-declines : CheckDeclines
-  pub check-says : CheckSays
-  pub children : StretchIs
+  pub check-declines : CheckRefuses
+  pub check-says : CheckDoes
+  pub children : ChildrenDoes
   pub evaluate-number : EvaluateNumber
   pub evaluate-accepts : EvaluateAccepts
-  pub evaluate-declines : EvaluateDeclines
-  pub evaluate-writes : EvaluateWrites
+  pub evaluate-declines : EvaluateRefuses
+  pub evaluate-writes : EvaluateDoes
   pub mark-number : MarkNumber
   pub mark-accepts : MarkAccepts
-  pub mark-declines : MarkDeclines
-  pub mark-says : MarkSays
+  pub mark-declines : MarkRefuses
+  pub mark-says : MarkDoes
   pub survey-number : SurveyNumber
   pub survey-accepts : SurveyAccepts
-  pub survey-declines : SurveyDeclines
+  pub survey-declines : SurveyRefuses
   pub move-number : MoveNumber
   pub move-accepts : MoveAccepts
-  pub move-declines : MoveDeclines
+  pub move-declines : MoveRefuses
   pub run-number : RunNumber
   pub run-accepts : RunAccepts
-  pub run-declines : RunDeclines
+  pub run-declines : RunRefuses
 
 -- ---- demand 2
 
@@ -60,7 +60,7 @@ pub record Demand1 : Type 0 where
 -- values, all other inputs are 0, other gates are evaluated', and Mark says yes to them: they obey every gate and show every code. Each code record of the map
 -- finds its value there. Their input values, in gate order, are a row from which Evaluate makes them. The surplus stands.
 pub record FoundWrites (m last ans after : List ℕ) : Type 0 where
-  pub answered : Answered (circuit m) last (take (gateCount m) after)
+  pub answered : FoundAnswer (circuit m) last (take (gateCount m) after)
   pub marked : Satisfies m (take (gateCount m) after)
   pub codes : (r : ℕ) → r < codeCount m → getD after (codeGate m r) 0 ≡ codeValue m r
   pub row : Row (circuit m) (rowOf (circuit m) after) × (evaluate (circuit m) (rowOf (circuit m) after) ≡ take (gateCount m) after)
@@ -77,7 +77,7 @@ pub record FoundWrites (m last ans after : List ℕ) : Type 0 where
 --     bounds                how large these numbers may become
 --     surveyed              "the first bytes of the work memory, one per gate, are its survey"; the surplus stands
 --     found, not-found      what the answer memory holds
-pub record RunMeans (m s tape work ans : List ℕ) (r : Running) : Type 0 where
+pub record RunMeans (m s tape work ans : List ℕ) (r : RunEffect) : Type 0 where
   pub accepted : verdict m ≡ 0
   pub start : KeepsCodes (circuit m) s
   pub entries-are : length tape ≡ 4 * length (entries tape)
@@ -100,16 +100,16 @@ pub record Demand2 : Type 0 where
   pub maps : AcceptedMaps
   pub notions : Demand2OnCircuits
   pub survey-accepts : SurveyAccepts
-  pub surveys : SurveyWrites
+  pub surveys : SurveyDoes
   pub move-accepts : MoveAccepts
-  pub moves : MoveWrites
+  pub moves : MoveDoes
   pub run-accepts : RunAccepts
-  pub runs : (m s tape work ans : List ℕ) → running m s tape work ans .told .accepted ≡ true
-      → RunMeans m s tape work ans (running m s tape work ans)
+  pub runs : (m s tape work ans : List ℕ) → runEffect m s tape work ans .told .accepted ≡ true
+      → RunMeans m s tape work ans (runEffect m s tape work ans)
 
 -- "Work and answer memory may hold any bytes and have any length that number 14 lets through: ending, moves and flips are the same for all of them.",
 -- and so are the configuration that is left, the survey of an accepted call and the answer of Found.
-pub record SameRun (m : List ℕ) (r r' : Running) : Type 0 where
+pub record SameRun (m : List ℕ) (r r' : RunEffect) : Type 0 where
   pub outcome : r .outcome ≡ r' .outcome
   pub configuration : r .configuration ≡ r' .configuration
   pub surveyed : r .told .accepted ≡ true → take (gateCount m) (r .work) ≡ take (gateCount m) (r' .work)
@@ -117,7 +117,7 @@ pub record SameRun (m : List ℕ) (r r' : Running) : Type 0 where
 
 abbrev pub SameForAllMemories : Type 0
 SameForAllMemories =
-    (m s tape work ans work' ans' : List ℕ) → Room m work ans → Room m work' ans' → SameRun m (running m s tape work ans) (running m s tape work' ans')
+    (m s tape work ans work' ans' : List ℕ) → Room m work ans → Room m work' ans' → SameRun m (runEffect m s tape work ans) (runEffect m s tape work' ans')
 
 -- ---- demand 3
 
@@ -145,7 +145,7 @@ tapeOf (d ∷ ds) [] = []
 tapeOf (d ∷ ds) (w ∷ ws) = d % 256 ∷ d / 256 ∷ w .kind ∷ w .option ∷ tapeOf ds ws
 
 -- a run "ends Found and reports at most that number of moves and at most that number of flips"
-pub record FoundWithin (n : ℕ) (r : Running) : Type 0 where
+pub record FoundWithin (n : ℕ) (r : RunEffect) : Type 0 where
   pub found : r .outcome .ending ≡ Found
   pub told : r .told .found ≡ true
   pub moves : r .outcome .moves ≤ n
@@ -159,16 +159,16 @@ pub record Finishing (m s ds : List ℕ) (n : ℕ) : Type 0 where
   pub plain : (w : Way) → In w ways → Plain w
   pub bytes : AreBytes (tapeOf ds ways)
   pub draws : map (λ (e : Entry). e .draw) (entries (tapeOf ds ways)) ≡ ds
-  pub run-finds : (work ans : List ℕ) → Room m work ans → FoundWithin n (running m s (tapeOf ds ways) work ans)
+  pub run-finds : (work ans : List ℕ) → Room m work ans → FoundWithin n (runEffect m s (tapeOf ds ways) work ans)
 
 -- From a start s.
 --     only, some-tape    "some tape ends Found exactly when some state satisfies the map"
 --     bounded            "For every such start and every satisfying assignment of all gates, count the gates where the two differ. For every list of
 --                        front draws of that length, .."
 pub record Demand3From (m s : List ℕ) : Type 0 where
-  pub only : (tape work ans : List ℕ) → running m s tape work ans .outcome .ending ≡ Found → (a : List ℕ) × Satisfies m a
+  pub only : (tape work ans : List ℕ) → runEffect m s tape work ans .outcome .ending ≡ Found → (a : List ℕ) × Satisfies m a
   pub some-tape : (a : List ℕ) → Satisfies m a
-      → (tape : List ℕ) × AreBytes tape × ((work ans : List ℕ) → Room m work ans → running m s tape work ans .outcome .ending ≡ Found)
+      → (tape : List ℕ) × AreBytes tape × ((work ans : List ℕ) → Room m work ans → runEffect m s tape work ans .outcome .ending ≡ Found)
   pub bounded : (a : List ℕ) → Satisfies m a → (ds : List ℕ) → AreDraws ds → length ds ≡ differ (circuit m) s a
       → Finishing m s ds (differ (circuit m) s a)
 
@@ -177,6 +177,6 @@ pub record Demand3From (m s : List ℕ) : Type 0 where
 pub record Demand3 : Type 0 where
   pub maps : MapAccepts
   pub circuits : AcceptedMaps
-  pub satisfying : MarkSays
+  pub satisfying : MarkDoes
   pub counted : DifferIs
   pub from : (m s : List ℕ) → verdict m ≡ 0 → KeepsCodes (circuit m) s → Demand3From m s

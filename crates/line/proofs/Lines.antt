@@ -12,14 +12,14 @@ use Rattle.circuit.specs.declared.Ending.the-variants.{Found}
 use Rattle.map.specs.Map.{u16At}
 use Rattle.map.specs.Check.{Shaped}
 use Rattle.map.proofs.Accepted.{facts}
-use Rattle.search.specs.Run.{running}
+use Rattle.search.specs.Run.{runEffect}
 use Rattle.search.proofs.Endings.{found-passes}
 use Rattle.line.specs.Text.{Wrote}
-use Rattle.line.specs.Line.{mostInput, tapeAt, mapPart, configurationPart, tapePart, inputTest, lent, refusedLine, runLine, lineOf, inputOf, lineRoom, Printing, printed, printing}
+use Rattle.line.specs.Line.{mostInput, tapeAt, mapPart, configurationPart, tapePart, inputTest, lent, refusedLine, runLine, lineOf, inputOf, lineRoom, LineEffect, lineAnswer, lineEffect}
 use Rattle.line.proofs.Writing.{wrote-over}
 
 -- what Found tells of the map
-pub found-shaped : (m s tape work ans : List ℕ) → running m s tape work ans .outcome .ending ≡ Found → Shaped m
+pub found-shaped : (m s tape work ans : List ℕ) → runEffect m s tape work ans .outcome .ending ≡ Found → Shaped m
 found-shaped m s tape work ans f = facts m (found-passes m s tape work ans f) .sound .placed .shaped
 
 -- what a whole input is
@@ -39,7 +39,7 @@ module _ (x : List ℕ) where
   unfolding lineOf
   line-refused e = rw e
 
-  pub line-runs : inputTest x ≡ true → runLine (mapPart x) (running (mapPart x) (configurationPart x) (tapePart x) lent lent) ≡ lineOf x
+  pub line-runs : inputTest x ≡ true → runLine (mapPart x) (runEffect (mapPart x) (configurationPart x) (tapePart x) lent lent) ≡ lineOf x
   unfolding lineOf
   line-runs e = rw e
 
@@ -89,17 +89,17 @@ module _ (m s tape : List ℕ) where
 
 -- ---- the call
 
-pub prints : (x out v : List ℕ) (n : ℕ) → lineRoom ≤ length out → length (lineOf x) ≤ length out → Wrote 0 (lineOf x) out v n → printed n v ≡ printing x out
-unfolding printing
+pub prints : (x out v : List ℕ) (n : ℕ) → lineRoom ≤ length out → length (lineOf x) ≤ length out → Wrote 0 (lineOf x) out v n → lineAnswer n v ≡ lineEffect x out
+unfolding lineEffect
 prints x out v n h l p = let (q, e) = wrote-over (lineOf x) out v n l p in rw (le-leb lineRoom (length out) h, q, e)
 
-pub prints-nothing : (x out : List ℕ) → length out < lineRoom → printed 0 out ≡ printing x out
-unfolding printing
+pub prints-nothing : (x out : List ℕ) → length out < lineRoom → lineAnswer 0 out ≡ lineEffect x out
+unfolding lineEffect
 prints-nothing x out h = rw (lt-leb lineRoom (length out) h)
 
 -- what stands in the memory after it
-pub printed-line : (x out v : List ℕ) (n : ℕ) → lineRoom ≤ length out → printed n v ≡ printing x out → take n v ≡ lineOf x
-unfolding printing
+pub printed-line : (x out v : List ℕ) (n : ℕ) → lineRoom ≤ length out → lineAnswer n v ≡ lineEffect x out → take n v ≡ lineOf x
+unfolding lineEffect
 printed-line x out v n h e =
     let q = rw (le-leb lineRoom (length out) h) at e in
-    rw (ap (λ (p : Printing). p .size) q, ap (λ (p : Printing). p .out) q) (take-append-seam (lineOf x) (drop (length (lineOf x)) out))
+    rw (ap (λ (p : LineEffect). p .size) q, ap (λ (p : LineEffect). p .out) q) (take-append-seam (lineOf x) (drop (length (lineOf x)) out))

@@ -12,7 +12,7 @@ use Rattle.circuit.specs.Gate.{kindOf, isInput}
 use Rattle.circuit.specs.Evaluate.{rowOf}
 use Rattle.map.specs.Map.{mostGates, u16At, kindByte, circuit}
 use Rattle.state.specs.State.{over}
-use Rattle.search.specs.Run.{Running, running, Room}
+use Rattle.search.specs.Run.{RunEffect, runEffect, Room}
 use Rattle.line.specs.Text.{foundWord, spentWord, refusedWord, blank, lineEnd, digit, decimal}
 
 -- the bytes from place a on, up to before place b
@@ -74,14 +74,14 @@ report (Spent front) moves flips m ans = spentLine front moves flips
 report (Refused number) moves flips m ans = refusedLine number
 
 -- the line of a run
-abbrev pub runLine : List ℕ → Running → List ℕ
+abbrev pub runLine : List ℕ → RunEffect → List ℕ
 runLine m r = report (r .outcome .ending) (r .outcome .moves) (r .outcome .flips) m (r .answer)
 
 -- the line that the program prints for an input
 unfoldable pub lineOf : List ℕ → List ℕ
 lineOf x =
     cond (inputTest x)
-    (runLine (mapPart x) (running (mapPart x) (configurationPart x) (tapePart x) lent lent))
+    (runLine (mapPart x) (runEffect (mapPart x) (configurationPart x) (tapePart x) lent lent))
     (refusedLine 0)
 
 -- ---- what the line says
@@ -92,11 +92,11 @@ inputOf m s tape = length m % 256 ∷ length m / 256 ∷ length s % 256 ∷ leng
 
 -- An input of exactly these bodies, at most 65,536 bytes in all, gives the line of the run on them.
 abbrev pub ExactInput : Type 0
-ExactInput = (m s tape : List ℕ) → 6 + length m + length s + length tape ≤ mostInput → lineOf (inputOf m s tape) ≡ runLine m (running m s tape lent lent)
+ExactInput = (m s tape : List ℕ) → 6 + length m + length s + length tape ≤ mostInput → lineOf (inputOf m s tape) ≡ runLine m (runEffect m s tape lent lent)
 
 -- Any work and answer memory that number 14 lets through would give the same line.
 abbrev pub SameLineForAllMemories : Type 0
-SameLineForAllMemories = (m s tape work ans : List ℕ) → Room m work ans → runLine m (running m s tape work ans) ≡ runLine m (running m s tape lent lent)
+SameLineForAllMemories = (m s tape work ans : List ℕ) → Room m work ans → runLine m (runEffect m s tape work ans) ≡ runLine m (runEffect m s tape lent lent)
 
 -- "the number is 0 if the input passes 65,536 bytes or isn't exactly the 6 bytes and the three lengths together"
 abbrev pub TooLong : Type 0
@@ -124,16 +124,16 @@ LineFits = (x : List ℕ) → length (lineOf x) ≤ lineRoom
 -- ---- the call
 
 -- how long the line is, and the output memory after the call
-pub record Printing : Type 0 where
+pub record LineEffect : Type 0 where
   pub size : ℕ
   pub out : List ℕ
 
-abbrev pub printed : ℕ → List ℕ → Printing
-printed n w = record { size = n; out = w }
+abbrev pub lineAnswer : ℕ → List ℕ → LineEffect
+lineAnswer n w = record { size = n; out = w }
 
 -- the line stands in the first bytes of the memory and the surplus is untouched; where memory is shorter than `lineRoom` nothing is written, and the size is 0
-unfoldable pub printing : List ℕ → List ℕ → Printing
-printing x out = cond (leb lineRoom (length out)) (printed (length (lineOf x)) (over (lineOf x) out)) (printed 0 out)
+unfoldable pub lineEffect : List ℕ → List ℕ → LineEffect
+lineEffect x out = cond (leb lineRoom (length out)) (lineAnswer (length (lineOf x)) (over (lineOf x) out)) (lineAnswer 0 out)
 
 -- ---- for inner functions
 

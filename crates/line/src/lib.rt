@@ -6,7 +6,7 @@ mod text;
 ghost use mathlib.Core.Path.{_≡_};
 ghost use Prim.Native.Nat.{_≤_};
 ghost use lib.ListN.{length};
-ghost use Rattle.line.specs.Line.{printed, printing};
+ghost use Rattle.line.specs.Line.{lineAnswer, lineEffect};
 
 // The longest input that the program takes.
 pub const MOST_INPUT: usize = 65536;
@@ -20,7 +20,7 @@ pub const LINE_ROOM: usize = 1100;
 // Writes the line for an input into the first bytes of `out` and returns how many they are. `LINE_ROOM` bytes hold any line: with less it writes nothing and
 // returns 0.
 pub fn line(input: &[u8], out: &mut [u8]) -> usize
-    ensures { λ r. ⌜ printed r (now (out .exit)) ≡ printing (now (input .entry)) (now (out .entry)) ⌝ }
+    ensures { λ r. ⌜ lineAnswer r (now (out .exit)) ≡ lineEffect (now (input .entry)) (now (out .entry)) ⌝ }
     ensures { λ r. ⌜ r ≤ length (now (out .entry)) ⌝ }
 {
     if out.len() < LINE_ROOM {

@@ -6,13 +6,13 @@ use Rattle.circuit.specs.Evaluate.{inputsBefore}
 use Rattle.circuit.specs.Bench.{adder}
 use Rattle.map.specs.Map.{u16At, fanInsBefore, codeAmong, kidsOf}
 use Rattle.kinds.specs.Kinds.{kindFits}
-use Rattle.map.specs.Check.{offsetsTest, kindTest, positionTest, positionsTest, childTest, childrenTest, codeTest, freeTest, firstFailed, contentsTests, bodiesTests, mapTests, verdict, checked}
+use Rattle.map.specs.Check.{offsetsTest, kindTest, positionTest, positionsTest, childTest, childrenTest, codeTest, freeTest, firstFailed, contentsTests, bodiesTests, mapTests, verdict, checkEffect}
 use Rattle.map.specs.Children.{hasGate, stretchAt, stretchLength}
 use Rattle.map.specs.Bench.{adderBytes, gapBytes, twoCodesBytes, wideBytes, Examples}
 
 -- every definition that the examples compute with, under one name
 unfoldable pub opened : ℕ
-unfolding _and_ _or_ allBelow inputsBefore adder u16At fanInsBefore codeAmong kidsOf offsetsTest kindFits kindTest positionTest positionsTest childTest childrenTest codeTest freeTest firstFailed contentsTests bodiesTests mapTests verdict checked hasGate stretchAt stretchLength adderBytes gapBytes twoCodesBytes wideBytes
+unfolding _and_ _or_ allBelow inputsBefore adder u16At fanInsBefore codeAmong kidsOf offsetsTest kindFits kindTest positionTest positionsTest childTest childrenTest codeTest freeTest firstFailed contentsTests bodiesTests mapTests verdict checkEffect hasGate stretchAt stretchLength adderBytes gapBytes twoCodesBytes wideBytes
 opened = 0
 
 pub examples : Examples

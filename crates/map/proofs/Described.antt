@@ -21,7 +21,7 @@ use Rattle.circuit.proofs.Survey.{lists-set}
 use Rattle.circuit.proofs.Source001.{gate-zero}
 use Rattle.map.specs.Map.{mostGates, gateCount, codeCount, kindByte, fanIn, childAt, codeGate, kidsOf, circuit}
 use Rattle.kinds.specs.Kinds.{kindFits}
-use Rattle.map.specs.Check.{offsetsTest, kindTest, positionTest, positionsTest, childTest, childrenTest, codeTest, freeTest, firstFailed, contentsTests, bodiesTests, mapTests, verdict, checked, Laid, Summed, Ordered, CodesAllowed, Described, MapAccepts, Test, passes, fails, MapNumber, CheckNumber, CheckAccepts, CheckSays, CheckDeclines, AcceptedMaps}
+use Rattle.map.specs.Check.{offsetsTest, kindTest, positionTest, positionsTest, childTest, childrenTest, codeTest, freeTest, firstFailed, contentsTests, bodiesTests, mapTests, verdict, checkEffect, Laid, Summed, Ordered, CodesAllowed, Described, MapAccepts, Test, passes, fails, MapNumber, CheckNumber, CheckAccepts, CheckDoes, CheckRefuses, AcceptedMaps}
 use Rattle.kinds.proofs.Bytes.{gate-kind}
 use Rattle.map.proofs.Laws.{past, stop, no-test, contents-tests}
 use Rattle.map.proofs.Accepted.{ascends, contents, bodies-tests, facts, kids-length, well-formed}
@@ -188,15 +188,15 @@ module _ (m : List ℕ) where
       ∙ past _ _ _ (of-free m (d .free))
       ∙ no-test
 
-  number-is : checked m .number ≡ firstFailed (mapTests m ++ [])
-  unfolding checked verdict mapTests contentsTests bodiesTests
+  number-is : checkEffect m .number ≡ firstFailed (mapTests m ++ [])
+  unfolding checkEffect verdict mapTests contentsTests bodiesTests
   number-is = elim (which (eqb (verdict m) 0)) [
     | inl q ↦ rw q (sym (eqb-true (verdict m) 0 q))
     | inr q ↦ rw q refl
   ]
 
-  was : checked m .accepted ≡ true → verdict m ≡ 0
-  unfolding checked
+  was : checkEffect m .accepted ≡ true → verdict m ≡ 0
+  unfolding checkEffect
   was e = elim (which (eqb (verdict m) 0)) [
     | inl q ↦ eqb-true (verdict m) 0 q
     | inr q ↦ absurd (false≢true (rw q at e))
@@ -206,14 +206,14 @@ pub map-accepts : MapAccepts
 map-accepts m = (described m, of-described m)
 
 pub check-number : CheckNumber
-check-number m = map-number m [] (checked m .number) (checked m .number ≡ 0) (number-is m) (λ v e. e ∙ no-test)
+check-number m = map-number m [] (checkEffect m .number) (checkEffect m .number ≡ 0) (number-is m) (λ v e. e ∙ no-test)
 
 pub check-accepts : CheckAccepts
-unfolding checked
+unfolding checkEffect
 check-accepts m = (λ e. described m (was m e), λ d. rw (eq-eqb (verdict m) 0 (of-described m d)))
 
-pub check-says : CheckSays
-unfolding checked inputsBefore
+pub check-says : CheckDoes
+unfolding checkEffect inputsBefore
 check-says m e = rw (eq-eqb (verdict m) 0 (was m e)) (record {
   number = refl;
   gates = refl;
@@ -232,8 +232,8 @@ check-says m e = rw (eq-eqb (verdict m) 0 (was m e)) (record {
       | inr z ↦ absurd (true≢false (sym q ∙ gate-kind (kindByte m g) (eqb-false _ _ z)))
     ]
 
-pub check-declines : CheckDeclines
-unfolding checked
+pub check-declines : CheckRefuses
+unfolding checkEffect
 check-declines m e = elim (which (eqb (verdict m) 0)) [
   | inl q ↦ absurd (true≢false (rw q at e))
   | inr q ↦ rw q (record { numbered = eqb-false (verdict m) 0 q; zeros = (refl, (refl, (refl, refl))) })

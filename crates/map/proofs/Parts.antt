@@ -14,7 +14,7 @@ use Rattle.circuit.specs.Gate.{isInput, kindOf}
 use Rattle.map.specs.Map.{u16At, gateCount, childrenAt, kindByte, fanIn, firstChild, childAt}
 use Rattle.kinds.specs.Kinds.{kindFits}
 use Rattle.map.specs.Check.{kindTest, verdict}
-use Rattle.map.specs.Children.{PartOf, hasGate, stretchAt, stretchLength, StretchIs}
+use Rattle.map.specs.Children.{PartOf, hasGate, stretchAt, stretchLength, ChildrenDoes}
 use Rattle.map.proofs.Accepted.{facts}
 
 -- ---- which gates have one
@@ -95,7 +95,7 @@ module _ (m : List ℕ) (g : ℕ) where
     | inr h ↦ rw h (omega arith)
   ]
 
-pub stretch-is : StretchIs
+pub stretch-is : ChildrenDoes
 stretch-is m g = record {
   place = λ v l. stretch-place m g (has-gate m g v l);
   long = λ v l. stretch-long m g (has-gate m g v l);

@@ -9,7 +9,7 @@ use Rattle.circuit.specs.Tools.{upTo}
 use Rattle.circuit.specs.Circuit.{Circuit}
 use Rattle.circuit.specs.Bench.{adder}
 use Rattle.map.specs.Map.{circuit}
-use Rattle.map.specs.Check.{verdict, checked}
+use Rattle.map.specs.Check.{verdict, checkEffect}
 use Rattle.map.specs.Children.{stretchAt, stretchLength}
 
 abbrev pub four : ℕ → ℕ → ℕ → ℕ → List ℕ → List ℕ
@@ -61,10 +61,10 @@ pub record Same (n : ℕ) (c d : Circuit) : Type 0 where
 
 pub record Examples : Type 0 where
   pub bytes : length adderBytes ≡ 68
-  pub counts : checked adderBytes ≡ record { accepted = true; number = 0; gates = 8; inputs = 3; children = 10; codes = 1 }
+  pub counts : checkEffect adderBytes ≡ record { accepted = true; number = 0; gates = 8; inputs = 3; children = 10; codes = 1 }
   pub decoded : Same 8 (circuit adderBytes) adder
   -- 1
-  pub short : checked (take 11 adderBytes) ≡ record { accepted = false; number = 1; gates = 0; inputs = 0; children = 0; codes = 0 }
+  pub short : checkEffect (take 11 adderBytes) ≡ record { accepted = false; number = 1; gates = 0; inputs = 0; children = 0; codes = 0 }
   -- 2: no gate; 1,025 gates, and 1,024 go on to 3
   pub no-gate : verdict (withByte 2 0 adderBytes) ≡ 2
   pub many-gates : (verdict (withByte 2 1 (withByte 3 4 adderBytes)) ≡ 2) × (verdict (withByte 2 0 (withByte 3 4 adderBytes)) ≡ 3)
@@ -77,11 +77,11 @@ pub record Examples : Type 0 where
   pub fan-ins : (verdict (withByte 41 1 adderBytes) ≡ 4) × (verdict (withByte 41 9 adderBytes) ≡ 4)
   pub fan-ins-others : (verdict (withByte 13 1 adderBytes) ≡ 4) × ((verdict (withByte 25 3 adderBytes) ≡ 4) × ((verdict (withByte 29 1 adderBytes) ≡ 4) × (verdict (withByte 17 2 gapBytes) ≡ 4)))
   -- fan-in 8 is accepted, 9 gives 4
-  pub wide : (verdict wideBytes ≡ 0) × (checked wideBytes ≡ record { accepted = true; number = 0; gates = 9; inputs = 8; children = 8; codes = 1 })
+  pub wide : (verdict wideBytes ≡ 0) × (checkEffect wideBytes ≡ record { accepted = true; number = 0; gates = 9; inputs = 8; children = 8; codes = 1 })
   pub too-wide : verdict (withByte 45 9 wideBytes) ≡ 4
   -- 5: gate 7 at 9; an input, whose first child position counts too; gate 3 at 1 where gate 7 has kind 5 is still 4; an OR of 3
   pub position : verdict (withByte 42 9 adderBytes) ≡ 5
-  pub gap : checked gapBytes ≡ record { accepted = true; number = 0; gates = 4; inputs = 2; children = 3; codes = 1 }
+  pub gap : checkEffect gapBytes ≡ record { accepted = true; number = 0; gates = 4; inputs = 2; children = 3; codes = 1 }
   pub input-position : (verdict gapBytes ≡ 0) × (verdict (withByte 22 0 gapBytes) ≡ 5)
   pub kind-first : verdict (withByte 26 1 (withByte 40 5 adderBytes)) ≡ 4
   pub total : verdict (withByte 41 3 adderBytes) ≡ 5

@@ -36,7 +36,7 @@ stretchLength m g = cond (hasGate m g) (2 * fanIn m g) 0
 --     within                       all of it in the map,
 --     holds                        which are its children in their order
 --     input, past-end, declined    where it is empty (an accepted input has fan-in 0)
-pub record Stretch (m : List ℕ) (g : ℕ) : Type 0 where
+pub record ChildrenMeans (m : List ℕ) (g : ℕ) : Type 0 where
   pub place : verdict m ≡ 0 → g < gateCount m → stretchAt m g ≡ childrenAt m + 2 * firstChild m g
   pub long : verdict m ≡ 0 → g < gateCount m → stretchLength m g ≡ 2 * fanIn m g
   pub within : stretchAt m g + stretchLength m g ≤ length m
@@ -46,5 +46,5 @@ pub record Stretch (m : List ℕ) (g : ℕ) : Type 0 where
   pub past-end : gateCount m ≤ g → stretchLength m g ≡ 0
   pub declined : (verdict m ≡ 0 → ⊥) → stretchLength m g ≡ 0
 
-abbrev pub StretchIs : Type 0
-StretchIs = (m : List ℕ) (g : ℕ) → Stretch m g
+abbrev pub ChildrenDoes : Type 0
+ChildrenDoes = (m : List ℕ) (g : ℕ) → ChildrenMeans m g

@@ -3,7 +3,7 @@ pub mod decode;
 mod tests;
 
 ghost use mathlib.Core.Path.{_≡_};
-ghost use Rattle.map.specs.Check.{says, checked};
+ghost use Rattle.map.specs.Check.{checkAnswer, checkEffect};
 ghost use Rattle.map.specs.Children.{PartOf, stretchAt, stretchLength};
 
 // A map has 1 to this many gates.
@@ -23,7 +23,7 @@ pub enum Checked {
 }
 
 pub fn check(map: &[u8]) -> Checked
-    ensures { λ r. ⌜ says r ≡ checked (now (map .entry)) ⌝ }
+    ensures { λ r. ⌜ checkAnswer r ≡ checkEffect (now (map .entry)) ⌝ }
 {
     let number = tests::failed(map);
     if number != 0 {

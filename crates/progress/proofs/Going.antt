@@ -17,7 +17,7 @@ use Rattle.folds.specs.Folds.{_and_}
 use Rattle.circuit.specs.Circuit.{Circuit, WellFormed}
 use Rattle.circuit.specs.Evaluate.{KeepsCodes}
 use Rattle.circuit.specs.Survey.{frontSize}
-use Rattle.circuit.specs.Run.{move, Ended, stop, after, run}
+use Rattle.circuit.specs.Run.{move, RunResult, stop, after, run}
 use Rattle.circuit.proofs.Moves.{entry-done}
 use Rattle.circuit.proofs.Trace.{run-found, run-spent, run-step}
 use Rattle.tape.specs.Tape.{entryAt, entriesFrom, entries, tapeTest, stepAt}
@@ -26,10 +26,10 @@ use Rattle.tape.specs.declared.Step.the-variants.{Next, End}
 use Rattle.tape.proofs.Reading.{step-has, step-over}
 use Rattle.marks.proofs.Marked.{front-some, front-none}
 
-adds-none : (r : Ended) → adds 0 0 r ≡ r
+adds-none : (r : RunResult) → adds 0 0 r ≡ r
 adds-none r = rw (zero-add (r .outcome .moves), zero-add (r .outcome .flips))
 
-adds-after : (n k j : ℕ) (r : Ended) → adds n k (after j r) ≡ adds (n + 1) (k + j) r
+adds-after : (n k j : ℕ) (r : RunResult) → adds n k (after j r) ≡ adds (n + 1) (k + j) r
 adds-after n k j r =
     let a : n + suc (r .outcome .moves) ≡ n + 1 + r .outcome .moves = omega arith in
     let b : k + (j + r .outcome .flips) ≡ k + j + r .outcome .flips = omega arith in
@@ -57,8 +57,8 @@ module _ (c : Circuit) (start tape : List ℕ) where
     stops e q =
         let r = g .rest ∙ ap (adds moves flips) q in
         record {
-          outcome = sym (ap (λ (x : Ended). x .outcome) r ∙ counted e);
-          last = sym (ap (λ (x : Ended). x .last) r);
+          outcome = sym (ap (λ (x : RunResult). x .outcome) r ∙ counted e);
+          last = sym (ap (λ (x : RunResult). x .last) r);
         }
       where
         counted : (e : Ending) → _≡_ {A = Outcome} (record { ending = e; moves = moves + 0; flips = flips + 0 }) (record { ending = e; moves = moves; flips = flips })

@@ -1,16 +1,16 @@
 -- The examples, computed. Assumes nothing.
 use Prim.Native.Nat.{ℕ}
 use mathlib.Core.Path.{refl}
-use Rattle.circuit.specs.Run.{drawn, downOptions, optionAt, greedyOptions, chosen, turned, run, answer}
+use Rattle.circuit.specs.Run.{drawn, downOptions, optionAt, greedyOptions, chosen, entryTurns, run, answer}
 use Rattle.tape.specs.Tape.{entryAt, entriesFrom, entries, tapeTest, kindsTest}
-use Rattle.search.specs.Move.{frontTest, entryTests, moveTests, movingBy, moving}
-use Rattle.search.specs.Run.{tapeTests, runTests, runningBy, running}
+use Rattle.search.specs.Move.{frontTest, entryTests, moveTests, moveBy, moveEffect}
+use Rattle.search.specs.Run.{tapeTests, runTests, runBy, runEffect}
 use Rattle.search.specs.Bench.{cornerBytes, notsBytes, Examples}
 use Rattle.survey.proofs.Bench.{opened as opened-below}
 
 -- every definition that the examples compute with, under one name
 unfoldable pub opened : ℕ
-unfolding opened-below drawn downOptions optionAt greedyOptions chosen turned entryAt kindsTest frontTest entryTests moveTests movingBy moving cornerBytes notsBytes run answer entriesFrom entries tapeTest tapeTests runTests runningBy running
+unfolding opened-below drawn downOptions optionAt greedyOptions chosen entryTurns entryAt kindsTest frontTest entryTests moveTests moveBy moveEffect cornerBytes notsBytes run answer entriesFrom entries tapeTest tapeTests runTests runBy runEffect
 opened = 0
 
 pub examples : Examples

@@ -14,14 +14,14 @@ use Rattle.circuit.specs.declared.Entry.{Entry}
 use Rattle.circuit.specs.Tools.{isEmpty}
 use Rattle.circuit.specs.Circuit.{Circuit}
 use Rattle.circuit.specs.Survey.{front, frontSize}
-use Rattle.circuit.specs.Run.{move, Ended, stop, run}
+use Rattle.circuit.specs.Run.{move, RunResult, stop, run}
 use Rattle.circuit.proofs.Trace.{run-found, run-spent, run-step}
 use Rattle.map.specs.Check.{firstFailed, mapTests, verdict}
 use Rattle.map.proofs.Laws.{passed-before}
-use Rattle.search.specs.Run.{runTests, told, runningBy, running}
+use Rattle.search.specs.Run.{runTests, told, runBy, runEffect}
 
 -- how a run on a circuit ends: it is never refused, it found where the last configuration has no front, and the front that its ending carries is that one's
-abbrev pub Ends : Circuit → Ended → Type 0
+abbrev pub Ends : Circuit → RunResult → Type 0
 Ends c r = told (r .outcome .ending) ≡ record { accepted = true; found = isEmpty (front c (r .last)); number = 0; front = frontSize c (r .last) }
 
 ends-found : (c : Circuit) (s : List ℕ) → isEmpty (front c s) ≡ true → Ends c (stop Found s)
@@ -43,8 +43,8 @@ run-ends c s (e ∷ es) = elim (which (isEmpty (front c s))) [
 ]
 
 -- a run that found was on an accepted map
-pub found-passes : (m s tape work ans : List ℕ) → running m s tape work ans .outcome .ending ≡ Found → verdict m ≡ 0
-unfolding running runningBy verdict
+pub found-passes : (m s tape work ans : List ℕ) → runEffect m s tape work ans .outcome .ending ≡ Found → verdict m ≡ 0
+unfolding runEffect runBy verdict
 found-passes m s tape work ans f = elim (which (eqb (firstFailed (mapTests m ++ runTests m s tape work ans)) 0)) [
   | inl q ↦ passed-before (mapTests m) (runTests m s tape work ans) (eqb-true _ 0 q)
   | inr q ↦ absurd (false≢true (ap (λ (e : Ending). told e .accepted) (rw q at f)))

@@ -9,8 +9,8 @@ use lib.Dec.{eqb, leb}
 use Rattle.circuit.specs.Tools.{isEmpty}
 use Rattle.circuit.specs.Survey.{front, survey}
 use Rattle.circuit.specs.Evaluate.{KeepsCodes, differ}
-use Rattle.circuit.specs.Run.{turned, move}
-use Rattle.circuit.specs.Source001.{Front, Turned}
+use Rattle.circuit.specs.Run.{entryTurns, move}
+use Rattle.circuit.specs.Source001.{Front, TurnsExactly}
 use Rattle.circuit.specs.Promise.{NoFront, EntryDone}
 use Rattle.map.specs.Map.{gateCount, circuit}
 use Rattle.map.specs.Check.{firstFailed, mapTests, verdict, Test, MapNumber}
@@ -39,7 +39,7 @@ moveTests m s entry work = startTests m s ++ (entryTests m entry work ++ ((15, f
 
 -- Move's answer, whether the call is accepted and else its number, "the drawn gate and how many values it turned", and the two lent memories after
 -- the call
-pub record Moving : Type 0 where
+pub record MoveEffect : Type 0 where
   pub accepted : Bool
   pub number : ℕ
   pub gate : ℕ
@@ -48,15 +48,15 @@ pub record Moving : Type 0 where
   pub work : List ℕ
 
 -- document 01's number and values of each case of the answer, beside the memories
-unfoldable pub did : Moved → List ℕ → List ℕ → Moving
-did (Done t) s w = record { accepted = true; number = 0; gate = t .gate; turned = t .turned; configuration = s; work = w }
-did (Refused n) s w = record { accepted = false; number = n; gate = 0; turned = 0; configuration = s; work = w }
+unfoldable pub moveAnswer : Moved → List ℕ → List ℕ → MoveEffect
+moveAnswer (Done t) s w = record { accepted = true; number = 0; gate = t .gate; turned = t .turned; configuration = s; work = w }
+moveAnswer (Refused n) s w = record { accepted = false; number = n; gate = 0; turned = 0; configuration = s; work = w }
 
 -- what a call with this number gives and leaves: "Move does one entry and returns the drawn gate and how many values it turned (1 to 8). The lent
 -- configuration is then the new one, and the first bytes of the work memory, one per gate, are its survey."; declined, it "leaves all lent memory
 -- untouched; the other numbers of its answer .. are then 0"
-unfoldable pub movingBy : ℕ → List ℕ → List ℕ → List ℕ → List ℕ → Moving
-movingBy n m s entry work =
+unfoldable pub moveBy : ℕ → List ℕ → List ℕ → List ℕ → List ℕ → MoveEffect
+moveBy n m s entry work =
     cond (eqb n 0)
     (record {
       accepted = true;
@@ -68,29 +68,29 @@ movingBy n m s entry work =
     })
     (record { accepted = false; number = n; gate = 0; turned = 0; configuration = s; work = work })
 
-unfoldable pub moving : List ℕ → List ℕ → List ℕ → List ℕ → Moving
-moving m s entry work = movingBy (firstFailed (mapTests m ++ moveTests m s entry work)) m s entry work
+unfoldable pub moveEffect : List ℕ → List ℕ → List ℕ → List ℕ → MoveEffect
+moveEffect m s entry work = moveBy (firstFailed (mapTests m ++ moveTests m s entry work)) m s entry work
 
 -- ---- what it means
 
 -- Of an accepted call: what its one entry does is `EntryDone`, document 01's move with the options of source document 001; the record and the two
 -- memories say so. (What `survey` says of a configuration is 001's: `SurveyIs001`.)
-pub record MoveMeans (m s entry work : List ℕ) (r : Moving) : Type 0 where
+pub record MoveMeans (m s entry work : List ℕ) (r : MoveEffect) : Type 0 where
   pub accepted : verdict m ≡ 0
   pub start : KeepsCodes (circuit m) s
   pub read : EntryRead entry 0 (entryAt entry 0)
   pub does : EntryDone (circuit m) s (entryAt entry 0)
   pub number : r .number ≡ 0
   pub gate : (r .gate ≡ move (circuit m) s (entryAt entry 0) .gate) × Front (circuit m) s (r .gate)
-  pub turns : Turned (turned (circuit m) s (entryAt entry 0)) s (r .configuration)
+  pub turns : TurnsExactly (entryTurns (circuit m) s (entryAt entry 0)) s (r .configuration)
   pub count : (r .turned ≡ differ (circuit m) s (r .configuration)) × ((1 ≤ r .turned) × (r .turned ≤ 8))
   pub keeps : KeepsCodes (circuit m) (r .configuration)
   pub surveyed : take (gateCount m) (r .work) ≡ survey (circuit m) (r .configuration)
   pub surplus : drop (gateCount m) (r .work) ≡ drop (gateCount m) work
   pub long : length (r .work) ≡ length work
 
-abbrev pub MoveWrites : Type 0
-MoveWrites = (m s entry work : List ℕ) → moving m s entry work .accepted ≡ true → MoveMeans m s entry work (moving m s entry work)
+abbrev pub MoveDoes : Type 0
+MoveDoes = (m s entry work : List ℕ) → moveEffect m s entry work .accepted ≡ true → MoveMeans m s entry work (moveEffect m s entry work)
 
 -- Move is accepted exactly for accepted maps, starts that keep the codes, an entry of 4 bytes with a kind up to 2, memory that is long enough, and a
 -- front that is not empty.
@@ -103,7 +103,7 @@ pub record Movable (m s entry work : List ℕ) : Type 0 where
   pub some-front : ¬ NoFront (circuit m) s
 
 abbrev pub MoveAccepts : Type 0
-MoveAccepts = (m s entry work : List ℕ) → (moving m s entry work .accepted ≡ true) ↔ Movable m s entry work
+MoveAccepts = (m s entry work : List ℕ) → (moveEffect m s entry work .accepted ≡ true) ↔ Movable m s entry work
 
 -- Its number: 12 to 15 behind those of the map and of a start
 abbrev pub EntryNumber : ℕ → List ℕ → List ℕ → List ℕ → List ℕ → Type 0
@@ -115,24 +115,24 @@ EntryNumber n m s entry work =
 
 abbrev pub MoveNumber : Type 0
 MoveNumber = (m s entry work : List ℕ)
-    → MapNumber (moving m s entry work .number) m (
-    StartNumber (moving m s entry work .number) m s (
-    EntryNumber (moving m s entry work .number) m s entry work))
+    → MapNumber (moveEffect m s entry work .number) m (
+    StartNumber (moveEffect m s entry work .number) m s (
+    EntryNumber (moveEffect m s entry work .number) m s entry work))
 
 -- Declined, it gives a number, "leaves all lent memory untouched; the other numbers of its answer .. are then 0".
-pub record MoveDeclined (s work : List ℕ) (r : Moving) : Type 0 where
+pub record MoveRefused (s work : List ℕ) (r : MoveEffect) : Type 0 where
   pub numbered : ¬ (r .number ≡ 0)
   pub zeros : (r .gate ≡ 0) × (r .turned ≡ 0)
   pub untouched : (r .configuration ≡ s) × (r .work ≡ work)
 
-abbrev pub MoveDeclines : Type 0
-MoveDeclines = (m s entry work : List ℕ) → moving m s entry work .accepted ≡ false → MoveDeclined s work (moving m s entry work)
+abbrev pub MoveRefuses : Type 0
+MoveRefuses = (m s entry work : List ℕ) → moveEffect m s entry work .accepted ≡ false → MoveRefused s work (moveEffect m s entry work)
 
 -- ---- for inner functions
 
 -- Move behind the map's tests, and behind all but 15
-unfoldable pub configurationMoving : List ℕ → List ℕ → List ℕ → List ℕ → Moving
-configurationMoving m s entry work = movingBy (firstFailed (moveTests m s entry work)) m s entry work
+unfoldable pub moveOnMap : List ℕ → List ℕ → List ℕ → List ℕ → MoveEffect
+moveOnMap m s entry work = moveBy (firstFailed (moveTests m s entry work)) m s entry work
 
-unfoldable pub entryMoving : List ℕ → List ℕ → List ℕ → List ℕ → Moving
-entryMoving m s entry work = movingBy (firstFailed ((15, frontTest m s) ∷ [])) m s entry work
+unfoldable pub moveOnEntry : List ℕ → List ℕ → List ℕ → List ℕ → MoveEffect
+moveOnEntry m s entry work = moveBy (firstFailed ((15, frontTest m s) ∷ [])) m s entry work

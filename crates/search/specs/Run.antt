@@ -13,7 +13,7 @@ use Rattle.circuit.specs.declared.Outcome.{Outcome}
 use Rattle.circuit.specs.Circuit.{Circuit}
 use Rattle.circuit.specs.Evaluate.{KeepsCodes}
 use Rattle.circuit.specs.Survey.{survey}
-use Rattle.circuit.specs.Run.{Ended, run, answer}
+use Rattle.circuit.specs.Run.{RunResult, run, answer}
 use Rattle.map.specs.Map.{gateCount, circuit}
 use Rattle.map.specs.Check.{firstFailed, mapTests, verdict, Test, MapNumber}
 use Rattle.state.specs.State.{over}
@@ -34,51 +34,51 @@ runTests m s tape work ans = startTests m s ++ tapeTests m tape work ans
 
 -- document 01's number and values of each case of an ending: whether the call is accepted, whether it found, the number that declines it, and the front's
 -- size that Spent carries
-pub record Told : Type 0 where
+pub record EndingValues : Type 0 where
   pub accepted : Bool
   pub found : Bool
   pub number : ℕ
   pub front : ℕ
 
-abbrev pub told : Ending → Told
+abbrev pub told : Ending → EndingValues
 told Found = record { accepted = true; found = true; number = 0; front = 0 }
 told (Spent f) = record { accepted = true; found = false; number = 0; front = f }
 told (Refused n) = record { accepted = false; found = false; number = n; front = 0 }
 
 -- "A run's answer is one record: its ending, its moves and its flips", what the ending tells, and the three lent memories after the call
-pub record Running : Type 0 where
+pub record RunEffect : Type 0 where
   pub outcome : Outcome
-  pub told : Told
+  pub told : EndingValues
   pub configuration : List ℕ
   pub work : List ℕ
   pub answer : List ℕ
 
-abbrev pub gave : Outcome → List ℕ → List ℕ → List ℕ → Running
-gave o s w a = record { outcome = o; told = told (o .ending); configuration = s; work = w; answer = a }
+abbrev pub runAnswer : Outcome → List ℕ → List ℕ → List ℕ → RunEffect
+runAnswer o s w a = record { outcome = o; told = told (o .ending); configuration = s; work = w; answer = a }
 
 -- "Found writes the answer memory .. Spent leaves it untouched.": the answer memory after an ending, where x is what Found writes
-abbrev pub answered : Ending → List ℕ → List ℕ → List ℕ
-answered Found x ans = over x ans
-answered (Spent f) x ans = ans
-answered (Refused n) x ans = ans
+abbrev pub answerMemory : Ending → List ℕ → List ℕ → List ℕ
+answerMemory Found x ans = over x ans
+answerMemory (Spent f) x ans = ans
+answerMemory (Refused n) x ans = ans
 
 -- "After either ending the configuration is the last one and the first bytes of the work memory, one per gate, are its survey."
-abbrev pub ran : Circuit → Ended → List ℕ → List ℕ → Running
-ran c r work ans = gave (r .outcome) (r .last) (over (survey c (r .last)) work) (answered (r .outcome .ending) (answer c (r .last)) ans)
+abbrev pub runEnded : Circuit → RunResult → List ℕ → List ℕ → RunEffect
+runEnded c r work ans = runAnswer (r .outcome) (r .last) (over (survey c (r .last)) work) (answerMemory (r .outcome .ending) (answer c (r .last)) ans)
 
 -- "the other numbers of its answer, as Run's moves and flips, are then 0"
-abbrev pub declined : ℕ → Outcome
-declined n = record { ending = Refused n; moves = 0; flips = 0 }
+abbrev pub refusedOutcome : ℕ → Outcome
+refusedOutcome n = record { ending = Refused n; moves = 0; flips = 0 }
 
 -- what a call with this number gives and leaves; declined, it "leaves all lent memory untouched"
-unfoldable pub runningBy : ℕ → List ℕ → List ℕ → List ℕ → List ℕ → List ℕ → Running
-runningBy n m s tape work ans =
+unfoldable pub runBy : ℕ → List ℕ → List ℕ → List ℕ → List ℕ → List ℕ → RunEffect
+runBy n m s tape work ans =
     cond (eqb n 0)
-    (ran (circuit m) (run (circuit m) s (entries tape)) work ans)
-    (gave (declined n) s work ans)
+    (runEnded (circuit m) (run (circuit m) s (entries tape)) work ans)
+    (runAnswer (refusedOutcome n) s work ans)
 
-unfoldable pub running : List ℕ → List ℕ → List ℕ → List ℕ → List ℕ → Running
-running m s tape work ans = runningBy (firstFailed (mapTests m ++ runTests m s tape work ans)) m s tape work ans
+unfoldable pub runEffect : List ℕ → List ℕ → List ℕ → List ℕ → List ℕ → RunEffect
+runEffect m s tape work ans = runBy (firstFailed (mapTests m ++ runTests m s tape work ans)) m s tape work ans
 
 -- ---- which calls are accepted
 
@@ -98,7 +98,7 @@ pub record Runnable (m s tape work ans : List ℕ) : Type 0 where
   pub room : Room m work ans
 
 abbrev pub RunAccepts : Type 0
-RunAccepts = (m s tape work ans : List ℕ) → (running m s tape work ans .told .accepted ≡ true) ↔ Runnable m s tape work ans
+RunAccepts = (m s tape work ans : List ℕ) → (runEffect m s tape work ans .told .accepted ≡ true) ↔ Runnable m s tape work ans
 
 -- Its number: 12 to 14 behind those of the map and of a start
 abbrev pub TapeNumber : ℕ → List ℕ → List ℕ → List ℕ → List ℕ → Type 0
@@ -109,22 +109,22 @@ TapeNumber n m tape work ans =
 
 abbrev pub RunNumber : Type 0
 RunNumber = (m s tape work ans : List ℕ)
-    → MapNumber (running m s tape work ans .told .number) m (
-    StartNumber (running m s tape work ans .told .number) m s (
-    TapeNumber (running m s tape work ans .told .number) m tape work ans))
+    → MapNumber (runEffect m s tape work ans .told .number) m (
+    StartNumber (runEffect m s tape work ans .told .number) m s (
+    TapeNumber (runEffect m s tape work ans .told .number) m tape work ans))
 
 -- Declined, it gives a number, "leaves all lent memory untouched; the other numbers of its answer .. are then 0".
-pub record RunDeclined (s work ans : List ℕ) (r : Running) : Type 0 where
+pub record RunRefused (s work ans : List ℕ) (r : RunEffect) : Type 0 where
   pub ending : r .outcome .ending ≡ Refused (r .told .number)
   pub numbered : ¬ (r .told .number ≡ 0)
   pub zeros : (r .outcome .moves ≡ 0) × ((r .outcome .flips ≡ 0) × (r .told .front ≡ 0))
   pub untouched : (r .configuration ≡ s) × ((r .work ≡ work) × (r .answer ≡ ans))
 
-abbrev pub RunDeclines : Type 0
-RunDeclines = (m s tape work ans : List ℕ) → running m s tape work ans .told .accepted ≡ false → RunDeclined s work ans (running m s tape work ans)
+abbrev pub RunRefuses : Type 0
+RunRefuses = (m s tape work ans : List ℕ) → runEffect m s tape work ans .told .accepted ≡ false → RunRefused s work ans (runEffect m s tape work ans)
 
 -- ---- for inner functions
 
 -- Run behind the map's tests
-unfoldable pub configurationRunning : List ℕ → List ℕ → List ℕ → List ℕ → List ℕ → Running
-configurationRunning m s tape work ans = runningBy (firstFailed (runTests m s tape work ans)) m s tape work ans
+unfoldable pub runOnMap : List ℕ → List ℕ → List ℕ → List ℕ → List ℕ → RunEffect
+runOnMap m s tape work ans = runBy (firstFailed (runTests m s tape work ans)) m s tape work ans

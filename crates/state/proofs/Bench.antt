@@ -3,13 +3,13 @@ use Prim.Native.Nat.{ℕ}
 use mathlib.Core.Path.{refl}
 use Rattle.circuit.specs.Circuit.{justified}
 use Rattle.circuit.specs.Evaluate.{rowOf, values, evaluate, mark}
-use Rattle.state.specs.State.{bitsTest, rowTests, configurationTests, evaluationBy, evaluation, markingBy, marking}
+use Rattle.state.specs.State.{bitsTest, rowTests, configurationTests, evaluateBy, evaluateEffect, markBy, markEffect}
 use Rattle.state.specs.Bench.{Examples}
 use Rattle.map.proofs.Bench.{opened as opened-below}
 
 -- every definition that the examples compute with, under one name
 unfoldable pub opened : ℕ
-unfolding opened-below justified rowOf values evaluate mark bitsTest rowTests configurationTests evaluationBy evaluation markingBy marking
+unfolding opened-below justified rowOf values evaluate mark bitsTest rowTests configurationTests evaluateBy evaluateEffect markBy markEffect
 opened = 0
 
 pub examples : Examples

@@ -18,7 +18,7 @@ use Rattle.map.proofs.Laws.{none-failed, past, no-test, passed-before}
 use Rattle.map.proofs.Accepted.{facts, well-formed}
 use Rattle.map.proofs.Answers.{behind-accepted}
 use Rattle.map.proofs.Described.{tested, map-number}
-use Rattle.state.specs.State.{Bits, bitsTest, rowTests, configurationTests, over, evaluationBy, evaluation, EvaluateWrites, EvaluateAccepts, EvaluateNumber, EvaluateDeclines, markingBy, marking, MarkSays, MarkAccepts, ConfigurationNumber, MarkNumber, MarkDeclines}
+use Rattle.state.specs.State.{Bits, bitsTest, rowTests, configurationTests, over, evaluateBy, evaluateEffect, EvaluateDoes, EvaluateAccepts, EvaluateNumber, EvaluateRefuses, markBy, markEffect, MarkDoes, MarkAccepts, ConfigurationNumber, MarkNumber, MarkRefuses}
 use Rattle.state.proofs.Filling.{bits-of}
 use Rattle.state.proofs.Over.{over-first, over-rest, over-long}
 
@@ -38,23 +38,23 @@ module _ (m row out : List ℕ) where
   abbrev row-number : ℕ
   row-number = firstFailed (mapTests m ++ rowTests m row out)
 
-  none : evaluation m row out .accepted ≡ true → row-number ≡ 0
-  unfolding evaluation evaluationBy
+  none : evaluateEffect m row out .accepted ≡ true → row-number ≡ 0
+  unfolding evaluateEffect evaluateBy
   none e = elim (which (eqb row-number 0)) [
     | inl q ↦ eqb-true row-number 0 q
     | inr q ↦ absurd (false≢true (rw q at e))
   ]
 
-  accepted : row-number ≡ 0 → evaluation m row out .accepted ≡ true
-  unfolding evaluation evaluationBy
+  accepted : row-number ≡ 0 → evaluateEffect m row out .accepted ≡ true
+  unfolding evaluateEffect evaluateBy
   accepted e = rw (eq-eqb row-number 0 e)
 
-  written : row-number ≡ 0 → evaluation m row out .out ≡ over (evaluate (circuit m) row) out
-  unfolding evaluation evaluationBy
+  written : row-number ≡ 0 → evaluateEffect m row out .out ≡ over (evaluate (circuit m) row) out
+  unfolding evaluateEffect evaluateBy
   written e = rw (eq-eqb row-number 0 e)
 
-  row-number-is : evaluation m row out .number ≡ row-number
-  unfolding evaluation evaluationBy
+  row-number-is : evaluateEffect m row out .number ≡ row-number
+  unfolding evaluateEffect evaluateBy
   row-number-is = elim (which (eqb row-number 0)) [
     | inl q ↦ rw q (sym (eqb-true row-number 0 q))
     | inr q ↦ rw q refl
@@ -71,7 +71,7 @@ module _ (m row out : List ℕ) where
   unfolding rowTests inputsBefore
   of-row k l = past _ _ _ (eq-eqb _ _ (k .long)) ∙ past _ _ _ (of-bits row (k .bits)) ∙ past _ _ _ (le-leb _ _ l) ∙ no-test
 
-pub evaluate-writes : EvaluateWrites
+pub evaluate-writes : EvaluateDoes
 evaluate-writes m row out e =
     let n = none m row out e in
     let (v, t) = behind m (rowTests m row out) n in
@@ -95,15 +95,15 @@ evaluate-accepts m row out = (
 pub evaluate-number : EvaluateNumber
 unfolding rowTests
 evaluate-number m row out =
-    let n = evaluation m row out .number in
+    let n = evaluateEffect m row out .number in
     map-number m _ n _ (row-number-is m row out) λ v e.
     tested 9 _ _ n _ _ e (eqb-true _ _) (eq-eqb _ _) λ q9 e9.
     tested 10 _ _ n _ _ e9 (bits-of row) (of-bits row) λ q10 e10.
     tested 14 _ _ n _ _ e10 (leb-true _ _) (le-leb _ _) λ q14 e14.
     e14 ∙ no-test
 
-pub evaluate-declines : EvaluateDeclines
-unfolding evaluation evaluationBy
+pub evaluate-declines : EvaluateRefuses
+unfolding evaluateEffect evaluateBy
 evaluate-declines m row out e = elim (which (eqb (row-number m row out) 0)) [
   | inl q ↦ absurd (true≢false (rw q at e))
   | inr q ↦ rw q (record { numbered = eqb-false (row-number m row out) 0 q; untouched = refl })
@@ -111,15 +111,15 @@ evaluate-declines m row out e = elim (which (eqb (row-number m row out) 0)) [
 
 -- ---- Mark
 
-said-yes : (m s : List ℕ) → marking m s .yes ≡ true → (firstFailed (mapTests m ++ configurationTests m s) ≡ 0) × (mark (circuit m) s ≡ true)
-unfolding marking markingBy
+said-yes : (m s : List ℕ) → markEffect m s .yes ≡ true → (firstFailed (mapTests m ++ configurationTests m s) ≡ 0) × (mark (circuit m) s ≡ true)
+unfolding markEffect markBy
 said-yes m s e = elim (which (eqb (firstFailed (mapTests m ++ configurationTests m s)) 0)) [
   | inl q ↦ (eqb-true _ 0 q, rw q at e)
   | inr q ↦ absurd (false≢true (rw q at e))
 ]
 
-says-yes : (m s : List ℕ) → firstFailed (mapTests m ++ configurationTests m s) ≡ 0 → mark (circuit m) s ≡ true → marking m s .yes ≡ true
-unfolding marking markingBy
+says-yes : (m s : List ℕ) → firstFailed (mapTests m ++ configurationTests m s) ≡ 0 → mark (circuit m) s ≡ true → markEffect m s .yes ≡ true
+unfolding markEffect markBy
 says-yes m s e q = rw (eq-eqb _ 0 e, q)
 
 pub configuration-of : (m s : List ℕ) → firstFailed (configurationTests m s) ≡ 0 → Configuration (circuit m) s
@@ -132,7 +132,7 @@ pub of-configuration : (m s : List ℕ) → Configuration (circuit m) s → firs
 unfolding configurationTests
 of-configuration m s k = past _ _ _ (eq-eqb _ _ (k .long)) ∙ past _ _ _ (of-bits s (k .bits)) ∙ no-test
 
-pub mark-says : MarkSays
+pub mark-says : MarkDoes
 mark-says m s = (
   λ e. (let (n, q) = said-yes m s e in let (v, t) = behind m (configurationTests m s) n in
       (v, mark-is (circuit m) s (configuration-of m s t) .0 q)),
@@ -140,7 +140,7 @@ mark-says m s = (
 )
 
 pub mark-accepts : MarkAccepts
-unfolding marking markingBy
+unfolding markEffect markBy
 mark-accepts m s = (
   λ e. elim (which (eqb (firstFailed (mapTests m ++ configurationTests m s)) 0)) [
     | inl q ↦ (let (v, t) = behind m (configurationTests m s) (eqb-true _ 0 q) in (v, configuration-of m s t))
@@ -149,8 +149,8 @@ mark-accepts m s = (
   λ a. rw (eq-eqb _ 0 (behind-accepted m _ (a .0) ∙ of-configuration m s (a .1))),
 )
 
-mark-number-is : (m s : List ℕ) → marking m s .number ≡ firstFailed (mapTests m ++ configurationTests m s)
-unfolding marking markingBy
+mark-number-is : (m s : List ℕ) → markEffect m s .number ≡ firstFailed (mapTests m ++ configurationTests m s)
+unfolding markEffect markBy
 mark-number-is m s = elim (which (eqb (firstFailed (mapTests m ++ configurationTests m s)) 0)) [
   | inl q ↦ rw q (sym (eqb-true _ 0 q))
   | inr q ↦ rw q refl
@@ -168,11 +168,11 @@ configuration-number m s ts n Rest e rest =
 pub mark-number : MarkNumber
 unfolding configurationTests
 mark-number m s =
-    let n = marking m s .number in
+    let n = markEffect m s .number in
     map-number m _ n _ (mark-number-is m s) λ v e. configuration-number m s [] n (n ≡ 0) e (λ k f. f ∙ no-test)
 
-pub mark-declines : MarkDeclines
-unfolding marking markingBy
+pub mark-declines : MarkRefuses
+unfolding markEffect markBy
 mark-declines m s e = elim (which (eqb (firstFailed (mapTests m ++ configurationTests m s)) 0)) [
   | inl q ↦ absurd (true≢false (rw q at e))
   | inr q ↦ rw q (record { numbered = eqb-false _ 0 q; not-yes = refl })

@@ -48,48 +48,48 @@ abbrev pub over : List ℕ → List ℕ → List ℕ
 over x w = x ++ drop (length x) w
 
 -- Evaluate's answer, whether the call is accepted and else its number, and the output memory after the call
-pub record Evaluation : Type 0 where
+pub record EvaluateEffect : Type 0 where
   pub accepted : Bool
   pub number : ℕ
   pub out : List ℕ
 
 -- document 01's number of each case of the answer, beside the memory
-unfoldable pub writes : Written → List ℕ → Evaluation
-writes Done w = record { accepted = true; number = 0; out = w }
-writes (written-variants.Refused n) w = record { accepted = false; number = n; out = w }
+unfoldable pub evaluateAnswer : Written → List ℕ → EvaluateEffect
+evaluateAnswer Done w = record { accepted = true; number = 0; out = w }
+evaluateAnswer (written-variants.Refused n) w = record { accepted = false; number = n; out = w }
 
 -- what a call with this number leaves: "Evaluate takes a row and writes the value of every gate."; declined, it "leaves all lent memory untouched"
-unfoldable pub evaluationBy : ℕ → List ℕ → List ℕ → List ℕ → Evaluation
-evaluationBy n m row out =
+unfoldable pub evaluateBy : ℕ → List ℕ → List ℕ → List ℕ → EvaluateEffect
+evaluateBy n m row out =
     cond (eqb n 0)
     (record { accepted = true; number = 0; out = over (evaluate (circuit m) row) out })
     (record { accepted = false; number = n; out = out })
 
-unfoldable pub evaluation : List ℕ → List ℕ → List ℕ → Evaluation
-evaluation m row out = evaluationBy (firstFailed (mapTests m ++ rowTests m row out)) m row out
+unfoldable pub evaluateEffect : List ℕ → List ℕ → List ℕ → EvaluateEffect
+evaluateEffect m row out = evaluateBy (firstFailed (mapTests m ++ rowTests m row out)) m row out
 
 -- ---- Mark
 
 -- Mark's answer: whether the call is accepted, else its number, and whether it says yes
-pub record Marking : Type 0 where
+pub record MarkEffect : Type 0 where
   pub accepted : Bool
   pub number : ℕ
   pub yes : Bool
 
 -- document 01's number and value of each case of the answer
-unfoldable pub tells : Marked → Marking
-tells Yes = record { accepted = true; number = 0; yes = true }
-tells No = record { accepted = true; number = 0; yes = false }
-tells (marked-variants.Refused n) = record { accepted = false; number = n; yes = false }
+unfoldable pub markAnswer : Marked → MarkEffect
+markAnswer Yes = record { accepted = true; number = 0; yes = true }
+markAnswer No = record { accepted = true; number = 0; yes = false }
+markAnswer (marked-variants.Refused n) = record { accepted = false; number = n; yes = false }
 
-unfoldable pub markingBy : ℕ → List ℕ → List ℕ → Marking
-markingBy n m s =
+unfoldable pub markBy : ℕ → List ℕ → List ℕ → MarkEffect
+markBy n m s =
     cond (eqb n 0)
     (record { accepted = true; number = 0; yes = mark (circuit m) s })
     (record { accepted = false; number = n; yes = false })
 
-unfoldable pub marking : List ℕ → List ℕ → Marking
-marking m s = markingBy (firstFailed (mapTests m ++ configurationTests m s)) m s
+unfoldable pub markEffect : List ℕ → List ℕ → MarkEffect
+markEffect m s = markBy (firstFailed (mapTests m ++ configurationTests m s)) m s
 
 -- ---- what they mean
 
@@ -100,22 +100,22 @@ pub record EvaluateMeans (m row out after : List ℕ) : Type 0 where
   pub surplus : drop (gateCount m) after ≡ drop (gateCount m) out
   pub long : length after ≡ length out
 
-abbrev pub EvaluateWrites : Type 0
-EvaluateWrites = (m row out : List ℕ) → evaluation m row out .accepted ≡ true → EvaluateMeans m row out (evaluation m row out .out)
+abbrev pub EvaluateDoes : Type 0
+EvaluateDoes = (m row out : List ℕ) → evaluateEffect m row out .accepted ≡ true → EvaluateMeans m row out (evaluateEffect m row out .out)
 
 -- Mark says yes exactly to the satisfying assignments of accepted maps.
-abbrev pub MarkSays : Type 0
-MarkSays = (m s : List ℕ) → (marking m s .yes ≡ true) ↔ ((verdict m ≡ 0) × Satisfying (circuit m) s)
+abbrev pub MarkDoes : Type 0
+MarkDoes = (m s : List ℕ) → (markEffect m s .yes ≡ true) ↔ ((verdict m ≡ 0) × Satisfying (circuit m) s)
 
 -- ---- which calls are accepted
 
 -- Evaluate is accepted exactly for accepted maps, rows, and memory that is long enough; Mark for accepted maps and configurations.
 abbrev pub EvaluateAccepts : Type 0
 EvaluateAccepts =
-    (m row out : List ℕ) → (evaluation m row out .accepted ≡ true) ↔ ((verdict m ≡ 0) × (Row (circuit m) row × (gateCount m ≤ length out)))
+    (m row out : List ℕ) → (evaluateEffect m row out .accepted ≡ true) ↔ ((verdict m ≡ 0) × (Row (circuit m) row × (gateCount m ≤ length out)))
 
 abbrev pub MarkAccepts : Type 0
-MarkAccepts = (m s : List ℕ) → (marking m s .accepted ≡ true) ↔ ((verdict m ≡ 0) × Configuration (circuit m) s)
+MarkAccepts = (m s : List ℕ) → (markEffect m s .accepted ≡ true) ↔ ((verdict m ≡ 0) × Configuration (circuit m) s)
 
 -- Their numbers: 9, 10 and 14 behind the map's, and 9 and 10
 abbrev pub RowNumber : ℕ → List ℕ → List ℕ → List ℕ → Type 0
@@ -125,7 +125,7 @@ RowNumber n m row out =
     Test n 14 (gateCount m ≤ length out) (n ≡ 0)))
 
 abbrev pub EvaluateNumber : Type 0
-EvaluateNumber = (m row out : List ℕ) → MapNumber (evaluation m row out .number) m (RowNumber (evaluation m row out .number) m row out)
+EvaluateNumber = (m row out : List ℕ) → MapNumber (evaluateEffect m row out .number) m (RowNumber (evaluateEffect m row out .number) m row out)
 
 abbrev pub ConfigurationNumber : ℕ → List ℕ → List ℕ → Type 0 → Type 0
 ConfigurationNumber n m s Rest =
@@ -133,36 +133,36 @@ ConfigurationNumber n m s Rest =
     Test n 10 (Bits s) Rest)
 
 abbrev pub MarkNumber : Type 0
-MarkNumber = (m s : List ℕ) → MapNumber (marking m s .number) m (ConfigurationNumber (marking m s .number) m s (marking m s .number ≡ 0))
+MarkNumber = (m s : List ℕ) → MapNumber (markEffect m s .number) m (ConfigurationNumber (markEffect m s .number) m s (markEffect m s .number ≡ 0))
 
 -- Declined, they give a number, Evaluate "leaves all lent memory untouched", and Mark doesn't say yes.
-pub record EvaluateDeclined (out : List ℕ) (r : Evaluation) : Type 0 where
+pub record EvaluateRefused (out : List ℕ) (r : EvaluateEffect) : Type 0 where
   pub numbered : ¬ (r .number ≡ 0)
   pub untouched : r .out ≡ out
 
-abbrev pub EvaluateDeclines : Type 0
-EvaluateDeclines = (m row out : List ℕ) → evaluation m row out .accepted ≡ false → EvaluateDeclined out (evaluation m row out)
+abbrev pub EvaluateRefuses : Type 0
+EvaluateRefuses = (m row out : List ℕ) → evaluateEffect m row out .accepted ≡ false → EvaluateRefused out (evaluateEffect m row out)
 
-pub record MarkDeclined (r : Marking) : Type 0 where
+pub record MarkRefused (r : MarkEffect) : Type 0 where
   pub numbered : ¬ (r .number ≡ 0)
   pub not-yes : r .yes ≡ false
 
-abbrev pub MarkDeclines : Type 0
-MarkDeclines = (m s : List ℕ) → marking m s .accepted ≡ false → MarkDeclined (marking m s)
+abbrev pub MarkRefuses : Type 0
+MarkRefuses = (m s : List ℕ) → markEffect m s .accepted ≡ false → MarkRefused (markEffect m s)
 
 -- ---- for inner functions
 
 -- a row that tests 9 and 10 let through, for a map with these counts
-pub record RowOf (n : Counts) (row : List ℕ) : Type 0 where
+pub record RowTested (n : Counts) (row : List ℕ) : Type 0 where
   pub long : length row ≡ n .inputs
   pub bits : Bits row
 
 -- Evaluate and Mark behind the map's tests
-unfoldable pub rowEvaluation : List ℕ → List ℕ → List ℕ → Evaluation
-rowEvaluation m row out = evaluationBy (firstFailed (rowTests m row out)) m row out
+unfoldable pub evaluateOnMap : List ℕ → List ℕ → List ℕ → EvaluateEffect
+evaluateOnMap m row out = evaluateBy (firstFailed (rowTests m row out)) m row out
 
-unfoldable pub configurationMarking : List ℕ → List ℕ → Marking
-configurationMarking m s = markingBy (firstFailed (configurationTests m s)) m s
+unfoldable pub markOnMap : List ℕ → List ℕ → MarkEffect
+markOnMap m s = markBy (firstFailed (configurationTests m s)) m s
 
 -- every coded gate has its code, record by record
 unfoldable pub shownByRecord : List ℕ → List ℕ → Bool

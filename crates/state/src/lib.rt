@@ -5,7 +5,7 @@ pub mod values;
 
 use map::Checked;
 ghost use mathlib.Core.Path.{_≡_};
-ghost use Rattle.state.specs.State.{writes, evaluation, tells, marking};
+ghost use Rattle.state.specs.State.{evaluateAnswer, evaluateEffect, markAnswer, markEffect};
 
 // Evaluate's answer: the values are written, or the number of the first test that fails.
 pub enum Written {
@@ -22,7 +22,7 @@ pub enum Marked {
 
 // Writes the value of every gate into the first bytes of `out`.
 pub fn evaluate(map: &[u8], row: &[u8], out: &mut [u8]) -> Written
-    ensures { λ r. ⌜ writes r (now (out .exit)) ≡ evaluation (now (map .entry)) (now (row .entry)) (now (out .entry)) ⌝ }
+    ensures { λ r. ⌜ evaluateAnswer r (now (out .exit)) ≡ evaluateEffect (now (map .entry)) (now (row .entry)) (now (out .entry)) ⌝ }
 {
     match map::check(map) {
         Checked::Refused(k) => Written::Refused(k),
@@ -32,7 +32,7 @@ pub fn evaluate(map: &[u8], row: &[u8], out: &mut [u8]) -> Written
 
 // Does every gate that isn't an input have the value its children give, and every coded gate its code?
 pub fn mark(map: &[u8], configuration: &[u8]) -> Marked
-    ensures { λ r. ⌜ tells r ≡ marking (now (map .entry)) (now (configuration .entry)) ⌝ }
+    ensures { λ r. ⌜ markAnswer r ≡ markEffect (now (map .entry)) (now (configuration .entry)) ⌝ }
 {
     match map::check(map) {
         Checked::Refused(k) => Marked::Refused(k),

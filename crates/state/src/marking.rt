@@ -12,7 +12,7 @@ ghost use Rattle.folds.specs.Folds.{allBelow};
 ghost use Rattle.circuit.specs.Circuit.{justified};
 ghost use Rattle.map.specs.Map.{gateCount, codesAt, codeGate, codeValue, circuit};
 ghost use Rattle.map.specs.Check.{Counted};
-ghost use Rattle.state.specs.State.{tells, configurationMarking, shownByRecord};
+ghost use Rattle.state.specs.State.{markAnswer, markOnMap, shownByRecord};
 
 // Is every gate an input, or do its children give its value?
 fn gates_right(map: &[u8], counts: Counts, s: &[u8]) -> bool
@@ -62,7 +62,7 @@ pub fn codes_shown(map: &[u8], counts: Counts, s: &[u8]) -> bool
 // Tests 9 and 10, and the answer.
 pub fn mark_accepted(map: &[u8], counts: Counts, s: &[u8]) -> Marked
     requires { ⌜ Counted (now map) counts ⌝ }
-    ensures { λ r. ⌜ tells r ≡ configurationMarking (now (map .entry)) (now (s .entry)) ⌝ }
+    ensures { λ r. ⌜ markAnswer r ≡ markOnMap (now (map .entry)) (now (s .entry)) ⌝ }
 {
     if s.len() != counts.gates {
         return Marked::Refused(9);

@@ -14,7 +14,7 @@ ghost use Rattle.circuit.specs.Circuit.{on, given};
 ghost use Rattle.circuit.specs.Evaluate.{inputsBefore, evaluate};
 ghost use Rattle.map.specs.Map.{kindByte, circuit};
 ghost use Rattle.map.specs.Check.{Counted};
-ghost use Rattle.state.specs.State.{over, bitsTest, writes, rowEvaluation, RowOf};
+ghost use Rattle.state.specs.State.{over, bitsTest, evaluateAnswer, evaluateOnMap, RowTested};
 
 // A value as a byte.
 pub fn bit(v: bool) -> u8
@@ -47,7 +47,7 @@ pub fn bits_ok(s: &[u8]) -> bool
 fn gate_value(map: &[u8], counts: Counts, g: usize, row: &[u8], at: usize, out: &[u8]) -> u8
     requires { ⌜ Counted (now map) counts ⌝ }
     requires { ⌜ (g < counts .gates) × (counts .gates ≤ length (now out)) ⌝ }
-    requires { ⌜ RowOf counts (now row) × (at ≡ inputsBefore (circuit (now map)) g) ⌝ }
+    requires { ⌜ RowTested counts (now row) × (at ≡ inputsBefore (circuit (now map)) g) ⌝ }
     ensures { λ r. ⌜ r ≡ byte (cond (isInput (kindOf (kindByte (now (map .entry)) g))) (on (now (row .entry)) at) (given (circuit (now (map .entry))) (now (out .entry)) g)) ⌝ }
 {
     if decode::kind(map, g) == 0 {
@@ -59,7 +59,7 @@ fn gate_value(map: &[u8], counts: Counts, g: usize, row: &[u8], at: usize, out: 
 // Writes the values, in rising order.
 fn fill(map: &[u8], counts: Counts, row: &[u8], out: &mut [u8])
     requires { ⌜ Counted (now map) counts ⌝ }
-    requires { ⌜ RowOf counts (now row) × (counts .gates ≤ length (now out)) ⌝ }
+    requires { ⌜ RowTested counts (now row) × (counts .gates ≤ length (now out)) ⌝ }
     ensures { λ _. ⌜ now (out .exit) ≡ over (evaluate (circuit (now (map .entry))) (now (row .entry))) (now (out .entry)) ⌝ }
 {
     let gates = counts.gates;
@@ -76,7 +76,7 @@ fn fill(map: &[u8], counts: Counts, row: &[u8], out: &mut [u8])
 // Tests 9, 10 and 14, and the values.
 pub fn evaluate_accepted(map: &[u8], counts: Counts, row: &[u8], out: &mut [u8]) -> Written
     requires { ⌜ Counted (now map) counts ⌝ }
-    ensures { λ r. ⌜ writes r (now (out .exit)) ≡ rowEvaluation (now (map .entry)) (now (row .entry)) (now (out .entry)) ⌝ }
+    ensures { λ r. ⌜ evaluateAnswer r (now (out .exit)) ≡ evaluateOnMap (now (map .entry)) (now (row .entry)) (now (out .entry)) ⌝ }
 {
     if row.len() != counts.inputs {
         return Written::Refused(9);

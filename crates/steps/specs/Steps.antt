@@ -9,7 +9,7 @@ use Rattle.circuit.specs.Circuit.{Circuit, justified}
 use Rattle.circuit.specs.Run.{turn, move}
 use Rattle.map.specs.Map.{codeCount, circuit}
 use Rattle.map.specs.Check.{CodeMarks}
-use Rattle.steps.specs.declared.Turn.{Turn}
+use Rattle.steps.specs.declared.MoveReport.{MoveReport}
 
 -- a mark for each coded gate
 pub record CodesMarked (m : List ℕ) (gates : ℕ) (coded : List ℕ) : Type 0 where
@@ -38,7 +38,7 @@ pub record Flipped (xs before after : List ℕ) (count : ℕ) : Type 0 where
   pub counted : count ≡ length xs
 
 -- the entry is done (what then stands in the memory for weighing is left open: it is overwritten before it is read)
-pub record Did (c : Circuit) (s : List ℕ) (e : Entry) (r : Turn) (after : List ℕ) : Type 0 where
+pub record DidEntry (c : Circuit) (s : List ℕ) (e : Entry) (r : MoveReport) (after : List ℕ) : Type 0 where
   pub gate : r .gate ≡ move c s e .gate
   pub turned : r .turned ≡ move c s e .flips
   pub next : after ≡ move c s e .next

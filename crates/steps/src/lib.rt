@@ -4,7 +4,7 @@ mod options;
 pub mod step;
 
 // The gate that an entry drew, and how many values it turned.
-pub struct Turn {
+pub struct MoveReport {
     pub gate: usize,
     pub turned: u32,
 }

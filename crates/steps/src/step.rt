@@ -1,5 +1,5 @@
 // What an entry does.
-use super::Turn;
+use super::MoveReport;
 use super::greedy;
 use super::options;
 use circuit::Choice;
@@ -15,7 +15,7 @@ ghost use Rattle.circuit.specs.Run.{optionAt, chosen};
 ghost use Rattle.map.specs.Map.{circuit};
 ghost use Rattle.map.specs.Check.{Counted};
 ghost use Rattle.marks.specs.Marks.{MarksOf};
-ghost use Rattle.steps.specs.Steps.{CodesMarked, Workspace, Drawable, Flipped, Did};
+ghost use Rattle.steps.specs.Steps.{CodesMarked, Workspace, Drawable, Flipped, DidEntry};
 
 // Turns the option of gate g that stands at i modulo their number. Returns how many values.
 fn down(map: &[u8], counts: Counts, g: usize, i: u8, s: &mut [u8]) -> u32
@@ -77,17 +77,17 @@ pub fn entry(
     s: &mut [u8],
     trial: &mut [u8],
     scratch: &mut [u8],
-) -> Turn
+) -> MoveReport
     requires { ⌜ Counted (now map) counts ⌝ }
     requires { ⌜ Workspace (now map) (counts .gates) (now coded) (now s) (now trial) (now scratch) ⌝ }
     requires { ⌜ MarksOf (circuit (now map)) (now s) (now marks) front × (1 ≤ front) ⌝ }
-    ensures { λ r. ⌜ Did (circuit (now (map .entry))) (now (s .entry)) e r (now (s .exit)) ⌝ }
+    ensures { λ r. ⌜ DidEntry (circuit (now (map .entry))) (now (s .entry)) e r (now (s .exit)) ⌝ }
 {
     let draw = e.draw;
     let choice = e.choice;
     let g = draw::drawn(marks, draw::place(draw, front));
     let turned = turn_chosen(map, counts, g, choice, coded, s, trial, scratch);
-    Turn { gate: g, turned }
+    MoveReport { gate: g, turned }
 }
 
 // Brings the marks up to date after values of s were turned, today by the full pass: they are the cone and front of s again. Returns the front's size.

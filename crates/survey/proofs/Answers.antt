@@ -8,14 +8,14 @@ use Rattle.map.specs.Map.{circuit}
 use Rattle.state.specs.State.{over}
 use Rattle.survey.specs.declared.Sizes.{Sizes}
 use Rattle.survey.specs.declared.Surveyed.the-variants.{Done, Refused}
-use Rattle.survey.specs.Survey.{reports, surveyingBy}
+use Rattle.survey.specs.Survey.{surveyAnswer, surveyBy}
 
 module _ (m s out : List ℕ) where
-  pub refused-by : (k n : ℕ) → k ≡ n → (n ≡ 0 → ⊥) → reports (Refused k) out ≡ surveyingBy n m s out
-  unfolding reports surveyingBy
+  pub refused-by : (k n : ℕ) → k ≡ n → (n ≡ 0 → ⊥) → surveyAnswer (Refused k) out ≡ surveyBy n m s out
+  unfolding surveyAnswer surveyBy
   refused-by k n e h = rw (ne-eqb n 0 h, e)
 
   pub done-by : (n : ℕ) (z : Sizes) (w : List ℕ) → n ≡ 0 → z .front ≡ frontSize (circuit m) s → z .interest ≡ interestSize (circuit m) s
-      → w ≡ over (survey (circuit m) s) out → reports (Done z) w ≡ surveyingBy n m s out
-  unfolding reports surveyingBy
+      → w ≡ over (survey (circuit m) s) out → surveyAnswer (Done z) w ≡ surveyBy n m s out
+  unfolding surveyAnswer surveyBy
   done-by n z w e f i q = rw (eq-eqb n 0 e, f, i, q)

@@ -3,13 +3,13 @@ use Prim.Native.Nat.{ℕ}
 use mathlib.Core.Path.{refl}
 use Rattle.folds.specs.Folds.{descend}
 use Rattle.circuit.specs.Survey.{spread, reasons, cone, inFront, front, interest, survey, frontSize, interestSize}
-use Rattle.survey.specs.Survey.{codesTest, startTests, surveyTests, surveyingBy, surveying}
+use Rattle.survey.specs.Survey.{codesTest, startTests, surveyTests, surveyBy, surveyEffect}
 use Rattle.survey.specs.Bench.{clashBytes, nandBytes, uncodedBytes, Examples}
 use Rattle.state.proofs.Bench.{opened as opened-below}
 
 -- every definition that the examples compute with, under one name
 unfoldable pub opened : ℕ
-unfolding opened-below descend spread reasons cone inFront front interest survey frontSize interestSize codesTest startTests surveyTests surveyingBy surveying clashBytes nandBytes uncodedBytes
+unfolding opened-below descend spread reasons cone inFront front interest survey frontSize interestSize codesTest startTests surveyTests surveyBy surveyEffect clashBytes nandBytes uncodedBytes
 opened = 0
 
 pub examples : Examples

@@ -20,29 +20,29 @@ use Rattle.map.proofs.Described.{tested, map-number}
 use Rattle.state.specs.State.{over}
 use Rattle.state.proofs.Over.{over-rest, over-long}
 use Rattle.state.proofs.Meaning.{behind}
-use Rattle.survey.specs.Survey.{startTests, surveyTests, surveyingBy, surveying, SurveyWrites, SurveyAccepts, SurveyNumber, SurveyDeclines}
+use Rattle.survey.specs.Survey.{startTests, surveyTests, surveyBy, surveyEffect, SurveyDoes, SurveyAccepts, SurveyNumber, SurveyRefuses}
 use Rattle.survey.proofs.Starts.{behind-start, start-of, of-start, start-number}
 
 module _ (m s out : List ℕ) where
   abbrev number : ℕ
   number = firstFailed (mapTests m ++ surveyTests m s out)
 
-  none : surveying m s out .accepted ≡ true → number ≡ 0
-  unfolding surveying surveyingBy
+  none : surveyEffect m s out .accepted ≡ true → number ≡ 0
+  unfolding surveyEffect surveyBy
   none e = elim (which (eqb number 0)) [
     | inl q ↦ eqb-true number 0 q
     | inr q ↦ absurd (false≢true (rw q at e))
   ]
 
-  number-is : surveying m s out .number ≡ number
-  unfolding surveying surveyingBy
+  number-is : surveyEffect m s out .number ≡ number
+  unfolding surveyEffect surveyBy
   number-is = elim (which (eqb number 0)) [
     | inl q ↦ rw q (sym (eqb-true number 0 q))
     | inr q ↦ rw q refl
   ]
 
-  accepted : number ≡ 0 → surveying m s out .accepted ≡ true
-  unfolding surveying surveyingBy
+  accepted : number ≡ 0 → surveyEffect m s out .accepted ≡ true
+  unfolding surveyEffect surveyBy
   accepted e = rw (eq-eqb number 0 e)
 
   -- the two parts of a call's tests behind the map's
@@ -54,11 +54,11 @@ module _ (m s out : List ℕ) where
   unfolding surveyTests
   of-room k l = behind-start m s _ k ∙ past _ _ _ l ∙ no-test
 
-  written : number ≡ 0 → surveying m s out ≡ record { accepted = true; number = 0; front = frontSize (circuit m) s; interest = interestSize (circuit m) s; out = over (survey (circuit m) s) out }
-  unfolding surveying surveyingBy
+  written : number ≡ 0 → surveyEffect m s out ≡ record { accepted = true; number = 0; front = frontSize (circuit m) s; interest = interestSize (circuit m) s; out = over (survey (circuit m) s) out }
+  unfolding surveyEffect surveyBy
   written e = rw (eq-eqb number 0 e)
 
-pub survey-writes : SurveyWrites
+pub survey-writes : SurveyDoes
 survey-writes m s out e =
     let n = none m s out e in
     let (v, t) = behind m (surveyTests m s out) n in
@@ -94,14 +94,14 @@ survey-accepts m s out = (
 pub survey-number : SurveyNumber
 unfolding surveyTests
 survey-number m s out =
-    let n = surveying m s out .number in
+    let n = surveyEffect m s out .number in
     map-number m _ n _ (number-is m s out) λ v e.
     start-number m s _ n _ (facts m v) e λ e11.
     tested 14 _ _ n _ _ e11 (leb-true _ _) (le-leb _ _) λ q14 e14.
     e14 ∙ no-test
 
-pub survey-declines : SurveyDeclines
-unfolding surveying surveyingBy
+pub survey-declines : SurveyRefuses
+unfolding surveyEffect surveyBy
 survey-declines m s out e = elim (which (eqb (number m s out) 0)) [
   | inl q ↦ absurd (true≢false (rw q at e))
   | inr q ↦ rw q (record { numbered = eqb-false (number m s out) 0 q; zeros = (refl, refl); untouched = refl })

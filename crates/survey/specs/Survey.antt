@@ -36,7 +36,7 @@ surveyTests m s out = startTests m s ++ ((14, leb (gateCount m) (length out)) �
 -- ---- Survey
 
 -- Survey's answer, whether the call is accepted and else its number, "the sizes of front and interest set", and the output memory after the call
-pub record Surveying : Type 0 where
+pub record SurveyEffect : Type 0 where
   pub accepted : Bool
   pub number : ℕ
   pub front : ℕ
@@ -44,20 +44,20 @@ pub record Surveying : Type 0 where
   pub out : List ℕ
 
 -- document 01's number and values of each case of the answer, beside the memory
-unfoldable pub reports : Surveyed → List ℕ → Surveying
-reports (Done z) w = record { accepted = true; number = 0; front = z .front; interest = z .interest; out = w }
-reports (Refused n) w = record { accepted = false; number = n; front = 0; interest = 0; out = w }
+unfoldable pub surveyAnswer : Surveyed → List ℕ → SurveyEffect
+surveyAnswer (Done z) w = record { accepted = true; number = 0; front = z .front; interest = z .interest; out = w }
+surveyAnswer (Refused n) w = record { accepted = false; number = n; front = 0; interest = 0; out = w }
 
 -- what a call with this number gives and leaves: "Survey writes one byte per gate .. and returns the sizes"; declined, it "leaves all lent memory
 -- untouched; the other numbers of its answer .. are then 0"
-unfoldable pub surveyingBy : ℕ → List ℕ → List ℕ → List ℕ → Surveying
-surveyingBy n m s out =
+unfoldable pub surveyBy : ℕ → List ℕ → List ℕ → List ℕ → SurveyEffect
+surveyBy n m s out =
     cond (eqb n 0)
     (record { accepted = true; number = 0; front = frontSize (circuit m) s; interest = interestSize (circuit m) s; out = over (survey (circuit m) s) out })
     (record { accepted = false; number = n; front = 0; interest = 0; out = out })
 
-unfoldable pub surveying : List ℕ → List ℕ → List ℕ → Surveying
-surveying m s out = surveyingBy (firstFailed (mapTests m ++ surveyTests m s out)) m s out
+unfoldable pub surveyEffect : List ℕ → List ℕ → List ℕ → SurveyEffect
+surveyEffect m s out = surveyBy (firstFailed (mapTests m ++ surveyTests m s out)) m s out
 
 -- ---- what it means
 
@@ -72,7 +72,7 @@ pub record SurveyByte (b : ℕ) (InCone InFront IsInteresting : Type 0) : Type 0
   pub interest-is : (interest ≡ true) ↔ IsInteresting
 
 -- The bytes and sizes are those of 001's cone, front and interest set (with document 01's two differences); the surplus stands.
-pub record SurveyMeans (m s out : List ℕ) (r : Surveying) : Type 0 where
+pub record SurveyMeans (m s out : List ℕ) (r : SurveyEffect) : Type 0 where
   pub accepted : verdict m ≡ 0
   pub start : KeepsCodes (circuit m) s
   pub room : gateCount m ≤ length (r .out)
@@ -82,13 +82,13 @@ pub record SurveyMeans (m s out : List ℕ) (r : Surveying) : Type 0 where
   pub front-size : Size (Front (circuit m) s) (r .front)
   pub interest-size : Size (Interesting (circuit m) s) (r .interest)
 
-abbrev pub SurveyWrites : Type 0
-SurveyWrites = (m s out : List ℕ) → surveying m s out .accepted ≡ true → SurveyMeans m s out (surveying m s out)
+abbrev pub SurveyDoes : Type 0
+SurveyDoes = (m s out : List ℕ) → surveyEffect m s out .accepted ≡ true → SurveyMeans m s out (surveyEffect m s out)
 
 -- Survey is accepted exactly for accepted maps, starts that keep the codes, and memory that is long enough.
 abbrev pub SurveyAccepts : Type 0
 SurveyAccepts =
-    (m s out : List ℕ) → (surveying m s out .accepted ≡ true) ↔ ((verdict m ≡ 0) × (KeepsCodes (circuit m) s × (gateCount m ≤ length out)))
+    (m s out : List ℕ) → (surveyEffect m s out .accepted ≡ true) ↔ ((verdict m ≡ 0) × (KeepsCodes (circuit m) s × (gateCount m ≤ length out)))
 
 -- Its number: those of a start, 9 to 11, behind the map's, and 14
 abbrev pub StartNumber : ℕ → List ℕ → List ℕ → Type 0 → Type 0
@@ -98,17 +98,17 @@ StartNumber n m s Rest =
 
 abbrev pub SurveyNumber : Type 0
 SurveyNumber = (m s out : List ℕ)
-    → MapNumber (surveying m s out .number) m (StartNumber (surveying m s out .number) m s (
-    Test (surveying m s out .number) 14 (gateCount m ≤ length out) (surveying m s out .number ≡ 0)))
+    → MapNumber (surveyEffect m s out .number) m (StartNumber (surveyEffect m s out .number) m s (
+    Test (surveyEffect m s out .number) 14 (gateCount m ≤ length out) (surveyEffect m s out .number ≡ 0)))
 
 -- Declined, it gives a number, "leaves all lent memory untouched; the other numbers of its answer .. are then 0".
-pub record SurveyDeclined (out : List ℕ) (r : Surveying) : Type 0 where
+pub record SurveyRefused (out : List ℕ) (r : SurveyEffect) : Type 0 where
   pub numbered : ¬ (r .number ≡ 0)
   pub zeros : (r .front ≡ 0) × (r .interest ≡ 0)
   pub untouched : r .out ≡ out
 
-abbrev pub SurveyDeclines : Type 0
-SurveyDeclines = (m s out : List ℕ) → surveying m s out .accepted ≡ false → SurveyDeclined out (surveying m s out)
+abbrev pub SurveyRefuses : Type 0
+SurveyRefuses = (m s out : List ℕ) → surveyEffect m s out .accepted ≡ false → SurveyRefused out (surveyEffect m s out)
 
 -- ---- for inner functions
 
@@ -119,5 +119,5 @@ pub record SurveyOf (c : Circuit) (s bytes : List ℕ) (sizes : Sizes) : Type 0 
   pub interest-is : sizes .interest ≡ interestSize c s
 
 -- Survey behind the map's tests
-unfoldable pub configurationSurveying : List ℕ → List ℕ → List ℕ → Surveying
-configurationSurveying m s out = surveyingBy (firstFailed (surveyTests m s out)) m s out
+unfoldable pub surveyOnMap : List ℕ → List ℕ → List ℕ → SurveyEffect
+surveyOnMap m s out = surveyBy (firstFailed (surveyTests m s out)) m s out

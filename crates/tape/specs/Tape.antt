@@ -24,14 +24,14 @@ unfoldable pub entryAt : List ℕ → ℕ → Entry
 entryAt t at = record { draw = u16At t at; choice = choiceOf (getD t (at + 2) 0) (getD t (at + 3) 0) }
 
 -- the same without functions: what the four bytes at a place say, where the kind is up to 2
-abbrev pub Says : Choice → ℕ → ℕ → Type 0
-Says (Greedy o) kind option = (kind ≡ 0) × (o ≡ option)
-Says (Down o) kind option = (kind ≡ 1) × (o ≡ option)
-Says (Up o) kind option = (kind ≡ 2) × (o ≡ option)
+abbrev pub ChoiceRead : Choice → ℕ → ℕ → Type 0
+ChoiceRead (Greedy o) kind option = (kind ≡ 0) × (o ≡ option)
+ChoiceRead (Down o) kind option = (kind ≡ 1) × (o ≡ option)
+ChoiceRead (Up o) kind option = (kind ≡ 2) × (o ≡ option)
 
 pub record EntryRead (t : List ℕ) (at : ℕ) (e : Entry) : Type 0 where
   pub draw : e .draw ≡ getD t at 0 + 256 * getD t (at + 1) 0
-  pub choice : Says (e .choice) (getD t (at + 2) 0) (getD t (at + 3) 0)
+  pub choice : ChoiceRead (e .choice) (getD t (at + 2) 0) (getD t (at + 3) 0)
 
 -- "A tape goes through the engine entry by entry, the place reached moving on by four.": n entries from a place on, and all
 unfoldable pub entriesFrom : List ℕ → ℕ → ℕ → List Entry

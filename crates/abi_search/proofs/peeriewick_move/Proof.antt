@@ -1,5 +1,5 @@
 use mathlib.Core.Path.{refl}
-use Rattle.search.specs.Move.{did}
+use Rattle.search.specs.Move.{moveAnswer}
 use borrow.Author.Needs.{needs}
 use Rattle.abi_search.proofs.peeriewick_move.Statement.{statement}
 use Rattle.abi_search.proofs.peeriewick_move.Tie as tie
@@ -9,14 +9,14 @@ use Rattle.abi_state.proofs.place.two.Reads as two-reads
 use Rattle.search.proofs.make_move.Reads as make-move-reads
 
 returns : tie.Need-returns
-unfolding did
+unfolding moveAnswer
 returns c =
     let k : tie.After-k = search in
     let m : tie.After-make-move = search in
     rw (← (rw (k .k .given .1) at (m .make-move .ensures))) (refl, (refl, (refl, refl)))
 
 returns-2 : tie.Need-returns-2
-unfolding did
+unfolding moveAnswer
 returns-2 c =
     let w : tie.After-two = search in
     let t : tie.After-t = search in

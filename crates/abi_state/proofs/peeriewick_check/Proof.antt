@@ -1,5 +1,5 @@
 use mathlib.Core.Path.{refl, sym, ap, _∙_}
-use Rattle.map.specs.Check.{says}
+use Rattle.map.specs.Check.{checkAnswer}
 use borrow.Author.Needs.{needs}
 use Rattle.abi_state.proofs.peeriewick_check.Statement.{statement}
 use Rattle.abi_state.proofs.peeriewick_check.Tie as tie
@@ -9,19 +9,19 @@ use Rattle.abi_state.proofs.place.four.Reads as four-reads
 use Rattle.map.proofs.check.Reads as check-reads
 
 returns : tie.Need-returns
-unfolding says
+unfolding checkAnswer
 returns c =
     let k : tie.After-k = search in
     let h : tie.After-check = search in
-    rw (← (ap says (sym (k .k .given .1)) ∙ h .check .ensures)) (refl, refl)
+    rw (← (ap checkAnswer (sym (k .k .given .1)) ∙ h .check .ensures)) (refl, refl)
 
 returns-2 : tie.Need-returns-2
-unfolding says
+unfolding checkAnswer
 returns-2 c =
     let f : tie.After-four = search in
     let n : tie.After-c = search in
     let h : tie.After-check = search in
-    rw (← (ap says (sym (n .c .given .1)) ∙ h .check .ensures)) (f .four .ensures)
+    rw (← (ap checkAnswer (sym (n .c .given .1)) ∙ h .check .ensures)) (f .four .ensures)
 
 pub peeriewick-check-spec : {M : Type 1} → statement M
 peeriewick-check-spec =

@@ -1,5 +1,5 @@
 use mathlib.Core.Path.{refl}
-use Rattle.state.specs.State.{writes}
+use Rattle.state.specs.State.{evaluateAnswer}
 use borrow.Author.Needs.{needs}
 use Rattle.abi_state.proofs.peeriewick_evaluate.Statement.{statement}
 use Rattle.abi_state.proofs.peeriewick_evaluate.Tie as tie
@@ -8,14 +8,14 @@ use Rattle.abi_state.proofs.peeriewick_evaluate.Lts as lts
 use Rattle.state.proofs.evaluate.Reads as evaluate-reads
 
 returns : tie.Need-returns
-unfolding writes
+unfolding evaluateAnswer
 returns c =
     let k : tie.After-k = search in
     let e : tie.After-evaluate = search in
     rw (← (rw (k .k .given .1) at (e .evaluate .ensures))) (refl, refl)
 
 returns-2 : tie.Need-returns-2
-unfolding writes
+unfolding evaluateAnswer
 returns-2 c =
     let e : tie.After-evaluate = search in
     rw (← (rw (c .enum-told .given .1) at (e .evaluate .ensures))) (refl, refl)

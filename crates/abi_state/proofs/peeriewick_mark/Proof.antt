@@ -1,5 +1,5 @@
 use mathlib.Core.Path.{refl, sym, ap, _∙_}
-use Rattle.state.specs.State.{tells}
+use Rattle.state.specs.State.{markAnswer}
 use borrow.Author.Needs.{needs}
 use Rattle.abi_state.proofs.peeriewick_mark.Statement.{statement}
 use Rattle.abi_state.proofs.peeriewick_mark.Tie as tie
@@ -9,27 +9,27 @@ use Rattle.abi_state.proofs.place.one.Reads as one-reads
 use Rattle.state.proofs.mark.Reads as mark-reads
 
 returns : tie.Need-returns
-unfolding tells
+unfolding markAnswer
 returns c =
     let k : tie.After-k = search in
     let m : tie.After-mark = search in
-    rw (← (ap tells (sym (k .k .given .1)) ∙ m .mark .ensures)) (refl, refl)
+    rw (← (ap markAnswer (sym (k .k .given .1)) ∙ m .mark .ensures)) (refl, refl)
 
 returns-2 : tie.Need-returns-2
-unfolding tells
+unfolding markAnswer
 returns-2 c =
     let o : tie.After-one = search in
     let t : tie.After-enum-told = search in
     let m : tie.After-mark = search in
-    rw (← (ap tells (sym (t .enum-told .given .1)) ∙ m .mark .ensures)) (o .one .ensures)
+    rw (← (ap markAnswer (sym (t .enum-told .given .1)) ∙ m .mark .ensures)) (o .one .ensures)
 
 returns-3 : tie.Need-returns-3
-unfolding tells
+unfolding markAnswer
 returns-3 c =
     let o : tie.After-one2 = search in
     let t : tie.After-enum-told2 = search in
     let m : tie.After-mark = search in
-    rw (← (ap tells (sym (t .enum-told2 .given .1)) ∙ m .mark .ensures)) (o .one2 .ensures)
+    rw (← (ap markAnswer (sym (t .enum-told2 .given .1)) ∙ m .mark .ensures)) (o .one2 .ensures)
 
 pub peeriewick-mark-spec : {M : Type 1} → statement M
 peeriewick-mark-spec =

@@ -1,5 +1,5 @@
 use mathlib.Core.Path.{refl}
-use Rattle.survey.specs.Survey.{reports}
+use Rattle.survey.specs.Survey.{surveyAnswer}
 use borrow.Author.Needs.{needs}
 use Rattle.abi_survey.proofs.peeriewick_survey.Statement.{statement}
 use Rattle.abi_survey.proofs.peeriewick_survey.Tie as tie
@@ -9,14 +9,14 @@ use Rattle.abi_state.proofs.place.two.Reads as two-reads
 use Rattle.survey.proofs.survey.Reads as survey-reads
 
 returns : tie.Need-returns
-unfolding reports
+unfolding surveyAnswer
 returns c =
     let k : tie.After-k = search in
     let s : tie.After-survey = search in
     rw (← (rw (k .k .given .1) at (s .survey .ensures))) (refl, (refl, refl))
 
 returns-2 : tie.Need-returns-2
-unfolding reports
+unfolding surveyAnswer
 returns-2 c =
     let w : tie.After-two = search in
     let z : tie.After-z = search in

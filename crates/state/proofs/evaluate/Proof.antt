@@ -1,7 +1,7 @@
 use denote.Ref.{now}
 use mathlib.Core.Path.{_∙_}
 use Rattle.map.proofs.Answers.{WasAccepted, accepted-by, declined-by, behind-accepted}
-use Rattle.state.specs.State.{evaluation, rowEvaluation}
+use Rattle.state.specs.State.{evaluateEffect, evaluateOnMap}
 use Rattle.state.proofs.Answers.{refused-by}
 use borrow.Author.Needs.{needs}
 use Rattle.state.proofs.evaluate.Statement.{statement}
@@ -20,14 +20,14 @@ module _ (c : tie.After-counts) where
   told = let k : tie.After-check = search in accepted-by _ _ _ (k .check .ensures) (c .counts .given .1)
 
 returns : tie.Need-returns
-unfolding evaluation
+unfolding evaluateEffect
 returns c =
     let k : tie.After-check = search in
     let d = declined-by _ _ _ _ (k .check .ensures) (c .before .k .given .1) in
     refused-by _ _ _ _ _ (d .number) (d .some)
 
 returns-2 : tie.Need-returns-2
-unfolding evaluation rowEvaluation
+unfolding evaluateEffect evaluateOnMap
 returns-2 c =
     let w : tie.After-evaluate-accepted = search in
     w .evaluate-accepted .ensures ∙ rw (behind-accepted _ _ (told (search) .passed))

@@ -1,5 +1,5 @@
 use mathlib.Core.Path.{sym, ap, _∙_}
-use Rattle.map.specs.Check.{says}
+use Rattle.map.specs.Check.{checkAnswer}
 use Rattle.map.proofs.Answers.{accepted-by, was-refused}
 use Rattle.abi_state.proofs.Stretches.{no-map}
 use borrow.Author.Needs.{needs}
@@ -20,7 +20,7 @@ within-requires c κs =
 returns : tie.Need-returns
 returns c =
     let h : tie.After-check = search in
-    no-map _ _ (was-refused _ _ (ap says (sym (c .enum-told .given .1)) ∙ h .check .ensures) .1)
+    no-map _ _ (was-refused _ _ (ap checkAnswer (sym (c .enum-told .given .1)) ∙ h .check .ensures) .1)
 
 pub of-spec : {M : Type 1} → statement M
 of-spec =

@@ -1,7 +1,7 @@
 use Rattle.line.specs.Line.{lent}
 use native.Mathlib.Omega.{arith}
 use mathlib.Core.Path.{sym, ap, _∙_}
-use Rattle.search.specs.Run.{Running}
+use Rattle.search.specs.Run.{RunEffect}
 use Rattle.line.proofs.Lines.{found-shaped}
 use borrow.Author.Needs.{needs}
 use Rattle.line.proofs.parts.put_run.Statement.{statement}
@@ -15,7 +15,7 @@ put-report-requires : tie.Need-put-report-requires
 put-report-requires c κs =
     let r : tie.After-run = search in
     let s : tie.Start = search in
-    (λ f. found-shaped _ _ _ _ _ (ap (λ (x : Running). x .outcome .ending) (sym (r .run .ensures)) ∙ f), (omega arith, s .pre))
+    (λ f. found-shaped _ _ _ _ _ (ap (λ (x : RunEffect). x .outcome .ending) (sym (r .run .ensures)) ∙ f), (omega arith, s .pre))
 
 returns : tie.Need-returns
 unfolding lent

@@ -8,7 +8,7 @@ use borrow.Author.Tests.{eq-eqb, ne-eqb}
 use Rattle.folds.proofs.Tests.{flag-false, flag-true, and-both, and-first-false, and-second-false}
 use Rattle.map.specs.Check.{firstFailed}
 use Rattle.map.proofs.Laws.{past, stop, no-test}
-use Rattle.state.specs.State.{bitsTest, configurationTests, configurationMarking}
+use Rattle.state.specs.State.{bitsTest, configurationTests, markOnMap}
 use Rattle.state.proofs.Filling.{bits-of}
 use Rattle.state.proofs.Marks.{mark-tests}
 use Rattle.state.proofs.Answers.{mark-refused, mark-yes, mark-no}
@@ -42,32 +42,32 @@ module _ (c : tie.Else2) where
   none = q1 (search) ∙ past _ _ _ bits ∙ no-test
 
 returns : tie.Need-returns
-unfolding configurationTests configurationMarking
+unfolding configurationTests markOnMap
 returns c =
     let s : tie.Start = search in
     let e = stop _ _ _ (ne-eqb _ _ (λ z. c .if1 .taken (z ∙ sym (s .pre .gates)))) in
     mark-refused _ _ _ 9 (sym e) (λ z. omega arith)
 
 returns-2 : tie.Need-returns-2
-unfolding configurationTests configurationMarking
+unfolding configurationTests markOnMap
 returns-2 c =
     let e = q1 (search) ∙ stop _ _ _ (flag-false _ _ (c .if2 .taken) (c .before .bits-ok .ensures)) in
     mark-refused _ _ _ 10 (sym e) (λ z. omega arith)
 
 returns-3 : tie.Need-returns-3
-unfolding configurationMarking
+unfolding markOnMap
 returns-3 c =
     let q : tie.Else2 = search in
     mark-no _ _ _ (none q) (mark-tests _ _ (begun q .pre .is) (bits-of _ (bits q)) ∙ and-first-false _ _ (flag-false _ _ (c .if3 .taken) (c .before .gates-right .ensures)))
 
 returns-4 : tie.Need-returns-4
-unfolding configurationMarking
+unfolding markOnMap
 returns-4 c =
     let q : tie.Else2 = search in
     mark-no _ _ _ (none q) (mark-tests _ _ (begun q .pre .is) (bits-of _ (bits q)) ∙ and-second-false _ _ (flag-false _ _ (c .if4 .taken) (c .before .codes-shown .ensures)))
 
 returns-5 : tie.Need-returns-5
-unfolding configurationMarking
+unfolding markOnMap
 returns-5 c =
     let e : tie.Else3 = search in
     let r : tie.After-gates-right = search in

@@ -9,7 +9,7 @@ use Rattle.folds.proofs.Tests.{flag-false, flag-true}
 use Rattle.map.specs.Map.{gateCount}
 use Rattle.map.specs.Check.{firstFailed}
 use Rattle.map.proofs.Laws.{past, stop, no-test}
-use Rattle.state.specs.State.{rowTests, rowEvaluation, bitsTest}
+use Rattle.state.specs.State.{rowTests, evaluateOnMap, bitsTest}
 use Rattle.state.proofs.Filling.{bits-of}
 use Rattle.state.proofs.Answers.{refused-by, done-by}
 use borrow.Author.Needs.{needs}
@@ -41,20 +41,20 @@ module _ (c : tie.Else2) where
   q2 = q1 (search) ∙ past _ _ _ bits
 
 returns : tie.Need-returns
-unfolding rowTests rowEvaluation
+unfolding rowTests evaluateOnMap
 returns c =
     let s : tie.Start = search in
     let e = stop _ _ _ (ne-eqb _ _ (λ z. c .if1 .taken (z ∙ sym (s .pre .inputs)))) in
     refused-by _ _ _ 9 _ (sym e) (λ z. omega arith)
 
 returns-2 : tie.Need-returns-2
-unfolding rowTests rowEvaluation
+unfolding rowTests evaluateOnMap
 returns-2 c =
     let e = q1 (search) ∙ stop _ _ _ (flag-false _ _ (c .if2 .taken) (c .before .bits-ok .ensures)) in
     refused-by _ _ _ 10 _ (sym e) (λ z. omega arith)
 
 returns-3 : tie.Need-returns-3
-unfolding rowTests rowEvaluation
+unfolding rowTests evaluateOnMap
 returns-3 c =
     let q : tie.Else2 = search in
     let s = begun q in
@@ -70,7 +70,7 @@ fill-requires c κs =
     (s .pre, (record { long = o .if1 .left; bits = bits-of _ (bits q) }, omega arith))
 
 returns-4 : tie.Need-returns-4
-unfolding rowTests rowEvaluation
+unfolding rowTests evaluateOnMap
 returns-4 c =
     let f : tie.After-fill = search in
     let q : tie.Else2 = search in
