@@ -6,7 +6,7 @@ use mathlib.Core.List.{List}
 use Rattle.map.specs.Map.{gateCount, childrenAt, fanIn, firstChild}
 use Rattle.map.specs.Check.{verdict}
 use Rattle.map.specs.Children.{hasGate, stretchAt, stretchLength}
-use Rattle.map.proofs.Parts.{declined, past-end, stretch-is}
+use Rattle.map.proofs.Parts.{declined, past-end, children-does}
 
 module _ (m : List ℕ) (g : ℕ) where
   none : hasGate m g ≡ false → (0 ≡ stretchAt m g) × (0 ≡ stretchLength m g)
@@ -21,4 +21,4 @@ module _ (m : List ℕ) (g : ℕ) where
 
   pub a-gate : (at fan : ℕ) → verdict m ≡ 0 → g < gateCount m → at ≡ childrenAt m + 2 * firstChild m g → fan ≡ fanIn m g
       → (at ≡ stretchAt m g) × (2 * fan ≡ stretchLength m g)
-  a-gate at fan v l p q = rw (p, q) (sym (stretch-is m g .place v l), sym (stretch-is m g .long v l))
+  a-gate at fan v l p q = rw (p, q) (sym (children-does m g .place v l), sym (children-does m g .long v l))

@@ -22,7 +22,7 @@ use Rattle.circuit.proofs.Lists.{map-same, in-select, select-sub, isEmp
 
 -- ---- partial assignments
 
-some-is : {a b : Bool} → some a ≡ some b → a ≡ b
+pub some-is : {a b : Bool} → some a ≡ some b → a ≡ b
 some-is e = cc
 
 pub never : {b : Bool} → _≡_ {A = Option Bool} none (some b) → ⊥

@@ -2,6 +2,7 @@ pub mod Bench
 pub mod Values
 pub mod Lists
 pub mod Justification
+pub mod Example001
 pub mod Shapes
 pub mod Gate
 pub mod Spread

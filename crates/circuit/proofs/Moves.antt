@@ -9,7 +9,7 @@ use native.Mathlib.Omega.{arith}
 use lib.ListN.{length}
 use lib.Dec.{leb}
 use borrow.Author.Tests.{leb-true, le-leb}
-use Rattle.folds.proofs.Tests.{which, same-test}
+use Rattle.folds.proofs.Tests.{which}
 use Rattle.circuit.specs.declared.Choice.{Choice}
 use Rattle.circuit.specs.declared.Choice.the-variants.{Greedy, Down, Up}
 use Rattle.circuit.specs.Tools.{holdsOfAll, isEmpty, pick}
@@ -20,7 +20,7 @@ use Rattle.circuit.specs.declared.Entry.{Entry}
 use Rattle.circuit.specs.Run.{drawn, downOptions, optionAt, turn, greedyOptions, chosen, entryTurns}
 use Rattle.circuit.specs.Source001.{OptionOf}
 use Rattle.circuit.specs.Promise.{NoFront, GreedyOptionsAre, DownTurns, ChoiceTurns, EntryDone, MoveIs}
-use Rattle.circuit.proofs.Lists.{select-in, in-select, select-same, all-in, in-all, least, in-length, some-isEmpty, isEmpty-none, pick-in, sub-length}
+use Rattle.circuit.proofs.Lists.{select-in, in-select, select-sub, all-in, in-all, least, in-length, some-isEmpty, isEmpty-none, pick-in, sub-length}
 use Rattle.circuit.proofs.Gate.{narrow}
 use Rattle.circuit.proofs.Cone.{unjustified-seen, in-front}
 use Rattle.circuit.proofs.Turns.{Turnable, keeps-turn, turn-turns, turn-differs, option-sound, option-few, option-turnable, alone-turnable}
@@ -49,8 +49,7 @@ module _ (c : Circuit) (s : List ℕ) (os : List (List ℕ)) where
 
 pub greedy-options-are : GreedyOptionsAre
 unfolding greedyOptions
-greedy-options-are c s os test is = select-same (best c s os) test os (λ o m.
-    same-test (best c s os o) (test o) (λ q. is o m .1 (best-is c s os o .0 q)) (λ q. best-is c s os o .1 (is o m .0 q)))
+greedy-options-are c s os = record { has = greedy-in c s os; in-order = select-sub (best c s os) os }
 
 -- there is a best option
 some-greedy : (c : Circuit) (s : List ℕ) (os : List (List ℕ)) → isEmpty os ≡ false → isEmpty (greedyOptions c s os) ≡ false

@@ -3,20 +3,18 @@
 use Prim.Native.Nat.{ℕ, zero, suc, _+_, _≤_, _<_, _%_}
 use mathlib.Core.Path.{_≡_}
 use mathlib.Core.Logic.{_⊎_, _↔_}
-use mathlib.Core.Bool.{Bool, true, false}
-use mathlib.Core.List.{List, [], _∷_, map, List·Memᴰ as In}
+use mathlib.Core.Bool.{true, false}
+use mathlib.Core.List.{List, [], _∷_, map, List·Memᴰ as In, Sublistᴰ as InOrder}
 use lib.ListN.{length, getD}
 use Rattle.circuit.specs.declared.Choice.{Choice}
 use Rattle.circuit.specs.declared.Choice.the-variants.{Greedy, Down, Up}
-use Rattle.circuit.specs.declared.Ending.the-variants.{Found, Spent}
-use Rattle.circuit.specs.Tools.{select}
 use Rattle.circuit.specs.Gate.{isInput}
 use Rattle.circuit.specs.Circuit.{Circuit, coded, WellFormed, Configuration, on}
 use Rattle.circuit.specs.Evaluate.{Obeys, Satisfying, Satisfiable, KeepsCodes, differ}
 use Rattle.circuit.specs.Survey.{front, frontSize, interestSize}
 use Rattle.circuit.specs.declared.Entry.{Entry}
-use Rattle.circuit.specs.Run.{downOptions, turn, greedyOptions, entryTurns, move, RunResult, run, answer}
-use Rattle.circuit.specs.Source001.{OptionOf, Cone, Front, TurnsExactly, Size, Functions, JustifiedIs001, RelevantIs001, DownOptionsAre001, DownOptionsInOrder, OptionsJustify, InputsInOrder, DifferIs, SurveyIs001}
+use Rattle.circuit.specs.Run.{downOptions, turn, greedyOptions, entryTurns, move, EndingValues, told, RunResult, endsFound, run, answer}
+use Rattle.circuit.specs.Source001.{OptionOf, Cone, Front, TurnsExactly, Size, SmallestIs, Functions, JustifiedIs001, RelevantIs001, DownOptionsAre001, DownOptionsInOrder, OptionsJustify, InputsInOrder, DifferIs, SurveyIs001}
 
 abbrev pub NoFront : Circuit → List ℕ → Type 0
 NoFront c s = (g : ℕ) → ¬ Front c s g
@@ -27,12 +25,16 @@ NoFront c s = (g : ℕ) → ¬ Front c s g
 abbrev pub StandsAt : List (List ℕ) → ℕ → List ℕ → Type 0
 StandsAt os i o = o ≡ getD os (i % length os) []
 
--- Greedy picks from the options with the smallest interest set after the move, in their order: whichever test tells these.
+-- xs are the options of os of which P holds, in the order in which they stand there (where none stands twice, as among down options, there is one such list)
+pub record PickedFrom (os : List (List ℕ)) (P : List ℕ → Type 0) (xs : List (List ℕ)) : Type 0 where
+  pub has : (o : List ℕ) → In o xs ↔ (In o os × P o)
+  pub in-order : InOrder xs os
+
+-- Greedy picks from "the options with the smallest interest set after the move, in rising order".
 abbrev pub GreedyOptionsAre : Type 0
 GreedyOptionsAre =
-    (c : Circuit) (s : List ℕ) (os : List (List ℕ)) (best : List ℕ → Bool)
-    → ((o : List ℕ) → In o os → (best o ≡ true) ↔ ((p : List ℕ) → In p os → interestSize c (turn o s) ≤ interestSize c (turn p s)))
-    → greedyOptions c s os ≡ select best os
+    (c : Circuit) (s : List ℕ) (os : List (List ℕ))
+    → PickedFrom os (λ o. (p : List ℕ) → In p os → interestSize c (turn o s) ≤ interestSize c (turn p s)) (greedyOptions c s os)
 
 -- the gates o that down with option i turns where gate g is drawn
 pub record DownTurns (c : Circuit) (s : List ℕ) (g i : ℕ) (o : List ℕ) : Type 0 where
@@ -98,32 +100,38 @@ differences c t zero = 0
 differences c t (suc n) = differ c (t 0) (t 1) + differences c (λ i. t (suc i)) n
 
 -- "A run makes the moves of document 01, reports as moves and flips the count of entries done and the sum of values they turned, and ends Found
--- exactly when its front becomes empty within the tape; the state it then gives obeys every gate and shows every code." Here r is what a run from s on
--- the tape es reports, and t are its configurations.
+-- exactly when its front becomes empty within the tape; the state it then gives obeys every gate and shows every code." Here e, moves, flips and last are what a
+-- run from s on the tape es reports, and t are its configurations.
+--     accepted           it isn't refused
 --     start, moved       each entry done makes its move, the first on the start
 --     found              Found exactly where the front becomes empty within the tape, at place i for the first time,
---     at-found           and then `moves` is this place;
+--     at-found           and then `moves` is this place, and no front's size is given;
 --     at-spent           else every entry is done, and Spent has the front's size
 --     earlier            no entry is done on an empty front
---     flips              sums the gates at which the configurations changed
---     last, keeps        "After either ending the configuration is the last one", which keeps the codes
+--     flips-are          sums the gates at which the configurations changed
+--     last-is, keeps     "After either ending the configuration is the last one", which keeps the codes
 --     shows              what Found writes obeys every gate and shows every code
-pub record Promised (c : Circuit) (s : List ℕ) (es : List Entry) (t : ℕ → List ℕ) (r : RunResult) : Type 0 where
+pub record Promised (c : Circuit) (s : List ℕ) (es : List Entry) (t : ℕ → List ℕ) (e : EndingValues) (moves flips : ℕ) (last : List ℕ) : Type 0 where
+  pub accepted : (e .accepted ≡ true) × (e .number ≡ 0)
   pub start : t 0 ≡ s
-  pub moved : (d : Entry) (i : ℕ) → i < r .outcome .moves → EntryDone c (t i) (getD es i d) × (t (suc i) ≡ move c (t i) (getD es i d) .next)
-  pub found : (r .outcome .ending ≡ Found) ↔ ((i : ℕ) × (i ≤ length es) × NoFront c (t i) × ((j : ℕ) → j < i → ¬ NoFront c (t j)))
-  pub at-found : r .outcome .ending ≡ Found → (r .outcome .moves ≤ length es) × NoFront c (t (r .outcome .moves))
-  pub at-spent : ¬ (r .outcome .ending ≡ Found)
-      → (r .outcome .moves ≡ length es) × ((n : ℕ) × (r .outcome .ending ≡ Spent n) × Size (Front c (t (r .outcome .moves))) n)
-  pub earlier : (i : ℕ) → i < r .outcome .moves → ¬ NoFront c (t i)
-  pub flips : r .outcome .flips ≡ differences c t (r .outcome .moves)
-  pub last : r .last ≡ t (r .outcome .moves)
-  pub keeps : KeepsCodes c (r .last)
-  pub shows : r .outcome .ending ≡ Found → Satisfying c (answer c (r .last))
+  pub moved : (d : Entry) (i : ℕ) → i < moves → EntryDone c (t i) (getD es i d) × (t (suc i) ≡ move c (t i) (getD es i d) .next)
+  pub found : (e .found ≡ true) ↔ ((i : ℕ) × (i ≤ length es) × NoFront c (t i) × ((j : ℕ) → j < i → ¬ NoFront c (t j)))
+  pub at-found : e .found ≡ true → (moves ≤ length es) × NoFront c (t moves) × (e .front ≡ 0)
+  pub at-spent : e .found ≡ false → (moves ≡ length es) × Size (Front c (t moves)) (e .front)
+  pub earlier : (i : ℕ) → i < moves → ¬ NoFront c (t i)
+  pub flips-are : flips ≡ differences c t moves
+  pub last-is : last ≡ t moves
+  pub keeps : KeepsCodes c last
+  pub shows : e .found ≡ true → Satisfying c (answer c last)
+
+-- this of a run from s on the tape es
+abbrev pub RunPromised : Circuit → List ℕ → List Entry → RunResult → Type 0
+RunPromised c s es r = Promised c s es (config c s es) (told (r .outcome .ending)) (r .outcome .moves) (r .outcome .flips) (r .last)
 
 -- Demand 2 on circuits.
 --     functions, justified           "NOT, AND, OR and XOR mean what 001 says", and so does justified
---     relevant                       the parts of subset-minimal justifications (and `SmallestIs` is what a smallest set is)
+--     relevant                       the parts of subset-minimal justifications
+--     smallest                       what a smallest set is, for cone and interest set
 --     surveys                        "Cone, front and interest set are those of source document 001, save two differences"
 --     options, order, justify        the down options are 001's, in document 01's order; each justifies its gate, and `turn` turns just its gates
 --     greedy                         what greedy picks from
@@ -131,10 +139,11 @@ pub record Promised (c : Circuit) (s : List ℕ) (es : List Entry) (t : ℕ → 
 --     answers                        what Found writes
 --     differs                        what `flips` sums: at how many gates two configurations differ
 --     runs                           what runs promise
-pub record Demand2OnCircuits : Type 0 where
+pub record Demand2OnCircuits : Type 1 where
   pub functions : Functions
   pub justified : JustifiedIs001
   pub relevant : RelevantIs001
+  pub smallest : SmallestIs
   pub surveys : SurveyIs001
   pub options : DownOptionsAre001
   pub order : DownOptionsInOrder
@@ -143,7 +152,7 @@ pub record Demand2OnCircuits : Type 0 where
   pub inputs : InputsInOrder
   pub answers : AnswerIs
   pub differs : DifferIs
-  pub runs : (c : Circuit) → WellFormed c → (s : List ℕ) → KeepsCodes c s → (es : List Entry) → Promised c s es (config c s es) (run c s es)
+  pub runs : (c : Circuit) → WellFormed c → (s : List ℕ) → KeepsCodes c s → (es : List Entry) → RunPromised c s es (run c s es)
 
 -- ---- demand 3
 
@@ -168,7 +177,7 @@ pub record FinishingTape (c : Circuit) (s : List ℕ) (ds : List ℕ) (n : ℕ) 
   pub tape : List Entry
   pub draws : map (λ (e : Entry). e .draw) tape ≡ ds
   pub plain : (e : Entry) → In e tape → NotGreedy (e .choice) × (optionByte (e .choice) < 256)
-  pub ends-found : run c s tape .outcome .ending ≡ Found
+  pub ends-found : endsFound (run c s tape) ≡ true
   pub moves : run c s tape .outcome .moves ≤ n
   pub flips : run c s tape .outcome .flips ≤ n
 
@@ -178,9 +187,9 @@ pub record FinishingTape (c : Circuit) (s : List ℕ) (ds : List ℕ) (n : ℕ) 
 --     bounded            "For every such start and every satisfying assignment of all gates, count the gates where the two differ. For every list of
 --                        front draws of that length .."
 pub record FoundFrom (c : Circuit) (s : List ℕ) : Type 0 where
-  pub only : (tape : List Entry) → run c s tape .outcome .ending ≡ Found → Satisfiable c
+  pub only : (tape : List Entry) → endsFound (run c s tape) ≡ true → Satisfiable c
   pub some-tape : Satisfiable c
-      → (tape : List Entry) × ((e : Entry) → In e tape → Writable e) × (length tape ≤ c .gates) × (run c s tape .outcome .ending ≡ Found)
+      → (tape : List Entry) × ((e : Entry) → In e tape → Writable e) × (length tape ≤ c .gates) × (endsFound (run c s tape) ≡ true)
   pub bounded : (a : List ℕ) → Satisfying c a → (ds : List ℕ) → length ds ≡ differ c s a → FinishingTape c s ds (differ c s a)
 
 abbrev pub Demand3OnCircuits : Type 0

@@ -1,6 +1,6 @@
 -- Document 01, 'Options and moves' and 'Run'. Assumes nothing.
 use Prim.Native.Nat.{ℕ, suc, _+_}
-use mathlib.Core.Bool.{true, false, cond, not}
+use mathlib.Core.Bool.{Bool, true, false, cond, not}
 use mathlib.Core.List.{List, [], _∷_}
 use lib.ListN.{length, set}
 use lib.Dec.{leb}
@@ -9,7 +9,7 @@ use Rattle.circuit.specs.declared.Choice.{Choice}
 use Rattle.circuit.specs.declared.Choice.the-variants.{Greedy, Down, Up}
 use Rattle.circuit.specs.declared.Entry.{Entry}
 use Rattle.circuit.specs.declared.Ending.{Ending}
-use Rattle.circuit.specs.declared.Ending.the-variants.{Found, Spent}
+use Rattle.circuit.specs.declared.Ending.the-variants.{Found, Spent, Refused}
 use Rattle.circuit.specs.declared.Outcome.{Outcome}
 use Rattle.circuit.specs.Tools.{byte, select, holdsOfAll, isEmpty, pick}
 use Rattle.circuit.specs.Gate.{options}
@@ -70,10 +70,26 @@ move c s e = record { gate = drawn c s (e .draw); flips = length (entryTurns c s
 
 -- ---- Run
 
+-- "If an answer is an enum, a definition states this paper's number and values for each of the enum's cases.": of an ending whether the call is accepted, the number
+-- that refuses it, whether the run found, and the front's size, which "Spent also carries"
+pub record EndingValues : Type 0 where
+  pub accepted : Bool
+  pub number : ℕ
+  pub found : Bool
+  pub front : ℕ
+
+abbrev pub told : Ending → EndingValues
+told Found = record { accepted = true; number = 0; found = true; front = 0 }
+told (Spent f) = record { accepted = true; number = 0; found = false; front = f }
+told (Refused n) = record { accepted = false; number = n; found = false; front = 0 }
+
 -- "A run's answer is one record: its ending, its moves and its flips", here beside the last configuration
 pub record RunResult : Type 0 where
   pub outcome : Outcome
   pub last : List ℕ
+
+abbrev pub endsFound : RunResult → Bool
+endsFound r = told (r .outcome .ending) .found
 
 -- a run that ends at s without an entry done
 abbrev pub stop : Ending → List ℕ → RunResult
@@ -87,7 +103,7 @@ after k r = record {
 }
 
 -- "Run repeats: survey; if the front is empty, end Found; if the tape is used up, end Spent; else do the next entry." "Spent also carries the
--- front's size." (Refused is not an ending of a run on a circuit: calls that are declined run nothing.
+-- front's size." (Refused is not an ending of a run on a circuit: calls that are refused run nothing.
 -- `elim` stands where `cond` would have antt compute a move that is not made.)
 unfoldable pub run : Circuit → List ℕ → List Entry → RunResult
 run c s [] = cond (isEmpty (front c s)) (stop Found s) (stop (Spent (frontSize c s)) s)

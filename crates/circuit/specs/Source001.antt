@@ -50,6 +50,26 @@ pub record Minimal (f : List Bool → Bool) (xs : List ℕ) (v : Bool) (σ : Par
   pub justifies : Justification f xs v σ
   pub no-smaller : (ρ : Partial) → Justification f xs v ρ → Subset ρ σ → Subset σ ρ
 
+-- 001's own example, to try these two by: "consider the gate t1 in Fig. 1. The possible justifications for <t1, f> are {<t3, f>}, {<t3, f>, <c0, t>}, {<t3, f>,
+-- <c0, f>}, {<c0, f>}, and {<t3, t>, <c0, f>}; of these the first and fourth one are subset minimal ones." In document 01's adder map t1 is gate 5, AND of c0, gate 2,
+-- and t3, gate 3. A pair is what an assignment gives t3 and c0.
+abbrev pub justificationsOfT1 : List (Option Bool × Option Bool)
+justificationsOfT1 = (some false, none) ∷ (some false, some true) ∷ (some false, some false) ∷ (none, some false) ∷ (some true, some false) ∷ []
+
+abbrev pub minimalOfT1 : List (Option Bool × Option Bool)
+minimalOfT1 = (some false, none) ∷ (none, some false) ∷ []
+
+abbrev pub childrenOfT1 : List ℕ
+childrenOfT1 = 2 ∷ 3 ∷ []
+
+-- Of the assignments to its children, just these are justifications, and just these are minimal.
+pub record Example001 (σ : Partial) : Type 0 where
+  pub justifications : Justification (gives And) childrenOfT1 false σ ↔ In (σ 3, σ 2) justificationsOfT1
+  pub minimal : Minimal (gives And) childrenOfT1 false σ ↔ In (σ 3, σ 2) minimalOfT1
+
+abbrev pub ExampleIs001 : Type 0
+ExampleIs001 = (σ : Partial) → ((x : ℕ) (b : Bool) → Has σ x b → In x childrenOfT1) → Example001 σ
+
 -- Child x is in some subset minimal justification. Difference 1: "001's written condition doesn't say that the justification must agree with the
 -- configuration; its worked example does, and the example decides."
 pub record TakesPart (f : List Bool → Bool) (xs : List ℕ) (v : Bool) (at : ℕ → Bool) (x : ℕ) : Type 0 where

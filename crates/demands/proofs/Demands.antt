@@ -28,19 +28,19 @@ use Rattle.map.specs.Map.{mostGates, gateCount, codeCount, codeGate, codeValue,
 use Rattle.map.specs.Check.{firstFailed, mapTests, verdict, IsMap}
 use Rattle.map.proofs.Accepted.{facts, well-formed}
 use Rattle.map.proofs.Codes.{code-found}
-use Rattle.map.proofs.Described.{map-accepts, check-number, check-accepts, check-says, check-declines, accepted-maps}
-use Rattle.map.proofs.Parts.{stretch-is}
+use Rattle.map.proofs.Described.{map-accepts, check-number, check-accepts, check-does, check-refuses, accepted-maps}
+use Rattle.map.proofs.Parts.{children-does}
 use Rattle.state.specs.State.{over}
 use Rattle.state.proofs.Over.{over-first, over-rest, over-long}
-use Rattle.state.proofs.Meaning.{evaluate-writes, evaluate-accepts, evaluate-number, evaluate-declines, mark-says, mark-accepts, mark-number, mark-declines}
-use Rattle.survey.proofs.Meaning.{survey-writes, survey-accepts, survey-number, survey-declines}
+use Rattle.state.proofs.Meaning.{evaluate-does, evaluate-accepts, evaluate-number, evaluate-refuses, mark-does, mark-accepts, mark-number, mark-refuses}
+use Rattle.survey.proofs.Meaning.{survey-does, survey-accepts, survey-number, survey-refuses}
 use Rattle.tape.specs.Tape.{mostEntries, entries}
 use Rattle.search.specs.Run.{tapeTests, runTests, EndingValues, told, answerMemory, runEnded, runBy, runEffect, Room, Runnable}
 use Rattle.search.proofs.Runs.{survey-length, answer-length}
 use Rattle.search.proofs.Endings.{run-ends}
 use Rattle.demands.specs.Demands.{Satisfies, FoundWrites, RunMeans, Demand1, Demand2, SameRun, SameForAllMemories, AreDraws, Way, Plain, tapeOf, Finishing, Demand3}
-use Rattle.demands.proofs.Moves.{move-writes, move-accepts, move-number, move-declines}
-use Rattle.demands.proofs.Runs.{of-room, none, written, runnable, of-runnable, found-accepted, run-accepts, run-number, run-declines, run-few, front-few}
+use Rattle.demands.proofs.Moves.{move-does, move-accepts, move-number, move-refuses}
+use Rattle.demands.proofs.Runs.{of-room, none, written, runnable, of-runnable, found-accepted, run-accepts, run-number, run-refuses, run-few, front-few}
 use Rattle.demands.proofs.Tapes.{entries-length, entry-is, entry-read, waysOf, ways-length, ways-plain, entries-back, tape-length, tape-kinds, tape-bytes}
 
 -- ---- demand 1
@@ -49,26 +49,26 @@ pub demand1 : Demand1
 demand1 = record {
   check-number = check-number;
   check-accepts = check-accepts;
-  check-declines = check-declines;
-  check-says = check-says;
-  children = stretch-is;
+  check-refuses = check-refuses;
+  check-does = check-does;
+  children = children-does;
   evaluate-accepts = evaluate-accepts;
   evaluate-number = evaluate-number;
-  evaluate-declines = evaluate-declines;
-  evaluate-writes = evaluate-writes;
+  evaluate-refuses = evaluate-refuses;
+  evaluate-does = evaluate-does;
   mark-accepts = mark-accepts;
   mark-number = mark-number;
-  mark-declines = mark-declines;
-  mark-says = mark-says;
+  mark-refuses = mark-refuses;
+  mark-does = mark-does;
   survey-accepts = survey-accepts;
   survey-number = survey-number;
-  survey-declines = survey-declines;
+  survey-refuses = survey-refuses;
   move-accepts = move-accepts;
   move-number = move-number;
-  move-declines = move-declines;
+  move-refuses = move-refuses;
   run-accepts = run-accepts;
   run-number = run-number;
-  run-declines = run-declines;
+  run-refuses = run-refuses;
 }
 
 -- ---- demand 2
@@ -104,7 +104,7 @@ module _ (m s tape work ans : List ℕ) (a : Runnable m s tape work ans) where
       let first = over-first (answer (circuit m) (end .last)) ans (gateCount m) l in
       record {
         answered = rw first w;
-        marked = rw first (mark-says m (answer (circuit m) (end .last)) .1 (a .accepted, promised .shows f));
+        marked = rw first (mark-does m (answer (circuit m) (end .last)) .1 (a .accepted, promised .shows f));
         row = rw (row-first (circuit m) (answer (circuit m) (end .last)) _ l, first)
             (row-is (circuit m) (answer (circuit m) (end .last)) (w .configuration), evaluate-again (circuit m) ok (answer (circuit m) (end .last)) (w .configuration) (w .obeys));
         codes = λ r h. shown m (facts m (a .accepted)) (answer (circuit m) (end .last)) _ (promised .shows f) r h;
@@ -144,9 +144,9 @@ demand2 = record {
   maps = accepted-maps;
   notions = demand2-on-circuits;
   survey-accepts = survey-accepts;
-  surveys = survey-writes;
+  surveys = survey-does;
   move-accepts = move-accepts;
-  moves = move-writes;
+  moves = move-does;
   run-accepts = run-accepts;
   runs = run-means;
 }
@@ -232,7 +232,7 @@ module _ (m s : List ℕ) (v : verdict m ≡ 0) (k : KeepsCodes (circuit m) s) w
   bounded : (a : List ℕ) → Satisfies m a → (ds : List ℕ) → AreDraws ds → length ds ≡ differ (circuit m) s a → Finishing m s ds (differ (circuit m) s a)
   bounded a y ds d l =
       finishing ds (differ (circuit m) s a) d (omega (arith, facts m v .sound .placed .shaped .few, differ-most (circuit m) s a))
-      (demand3-on-circuits (circuit m) (well-formed m (facts m v)) s k .bounded a (mark-says m a .0 y .1) ds l)
+      (demand3-on-circuits (circuit m) (well-formed m (facts m v)) s k .bounded a (mark-does m a .0 y .1) ds l)
 
 zeros-are-draws : (n : ℕ) → AreDraws (replicate n 0)
 zeros-are-draws zero = λ d i. absurd (nowhere i)
@@ -242,7 +242,7 @@ pub demand3 : Demand3
 demand3 = record {
   maps = map-accepts;
   circuits = accepted-maps;
-  satisfying = mark-says;
+  satisfying = mark-does;
   counted = differ-is;
   from = λ m s v k. record {
     only = only m s;

@@ -19,7 +19,7 @@ use Rattle.circuit.proofs.Lists.{select-length, length-upTo}
 use Rattle.map.specs.Map.{mostGates, u16At, gateCount, kindByte}
 use Rattle.map.specs.Check.{Shaped, verdict}
 use Rattle.map.proofs.Accepted.{facts}
-use Rattle.map.proofs.Answers.{behind-declined}
+use Rattle.map.proofs.Answers.{behind-refused}
 use Rattle.search.specs.Run.{runTests, runBy, runEffect, Room}
 use Rattle.demands.proofs.Demands.{same-for-all-memories}
 use Rattle.line.specs.Text.{decimalIn, readOn, readDecimal, DecimalReads}
@@ -64,14 +64,14 @@ module _ (m s tape work ans : List ℕ) where
       let q = same-for-all-memories m s tape work ans lent lent r (record { work-room = l; answer-room = l }) in
       same-report _ _ _ m _ _ (q .answered) ∙ rw (q .outcome)
 
-  same-declined : (verdict m ≡ 0 → ⊥) → runLine m (runEffect m s tape work ans) ≡ runLine m (runEffect m s tape lent lent)
+  same-refused : (verdict m ≡ 0 → ⊥) → runLine m (runEffect m s tape work ans) ≡ runLine m (runEffect m s tape lent lent)
   unfolding runEffect runBy
-  same-declined v = rw (behind-declined m (runTests m s tape work ans) v, behind-declined m (runTests m s tape lent lent) v, ne-eqb (verdict m) 0 v)
+  same-refused v = rw (behind-refused m (runTests m s tape work ans) v, behind-refused m (runTests m s tape lent lent) v, ne-eqb (verdict m) 0 v)
 
 pub same-line-for-all-memories : SameLineForAllMemories
 same-line-for-all-memories m s tape work ans r = elim (which (eqb (verdict m) 0)) [
   | inl q ↦ same-accepted m s tape work ans (eqb-true _ _ q) r
-  | inr q ↦ same-declined m s tape work ans (eqb-false _ _ q)
+  | inr q ↦ same-refused m s tape work ans (eqb-false _ _ q)
 ]
 
 -- ---- how long a line is

@@ -105,8 +105,8 @@ module _ (m s entry work : List ℕ) where
   unfolding moveEffect moveBy
   written e = rw (eq-eqb number 0 e)
 
-pub move-writes : MoveDoes
-move-writes m s entry work e =
+pub move-does : MoveDoes
+move-does m s entry work e =
     let n = none m s entry work e in
     let a = movable m s entry work n in
     let ok = well-formed m (facts m (a .accepted)) in
@@ -142,9 +142,9 @@ move-number m s entry work =
     tested 15 _ _ n _ _ e14 (front-of m s (facts m v)) (of-front m s (facts m v)) λ q15 e15.
     e15 ∙ no-test
 
-pub move-declines : MoveRefuses
+pub move-refuses : MoveRefuses
 unfolding moveEffect moveBy
-move-declines m s entry work e = elim (which (eqb (number m s entry work) 0)) [
+move-refuses m s entry work e = elim (which (eqb (number m s entry work) 0)) [
   | inl q ↦ absurd (true≢false (rw q at e))
   | inr q ↦ rw q (record { numbered = eqb-false (number m s entry work) 0 q; zeros = (refl, refl); untouched = (refl, refl) })
 ]

@@ -118,9 +118,9 @@ run-number m s tape work ans =
     tested 14 _ _ n _ _ e13 (room-of m work ans) (of-room m work ans) λ q14 e14.
     e14 ∙ no-test
 
-pub run-declines : RunRefuses
+pub run-refuses : RunRefuses
 unfolding runEffect runBy
-run-declines m s tape work ans e = elim (which (eqb (number m s tape work ans) 0)) [
+run-refuses m s tape work ans e = elim (which (eqb (number m s tape work ans) 0)) [
   | inl q ↦ absurd (true≢false (sym (accepted m s tape work ans (eqb-true (number m s tape work ans) 0 q)) ∙ e))
   | inr q ↦ rw q (record { ending = refl; numbered = eqb-false (number m s tape work ans) 0 q; zeros = (refl, (refl, refl)); untouched = (refl, (refl, refl)) })
 ]

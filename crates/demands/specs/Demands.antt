@@ -33,26 +33,26 @@ Satisfies m a = markEffect m a .yes ≡ true
 pub record Demand1 : Type 0 where
   pub check-number : CheckNumber
   pub check-accepts : CheckAccepts
-  pub check-declines : CheckRefuses
-  pub check-says : CheckDoes
+  pub check-refuses : CheckRefuses
+  pub check-does : CheckDoes
   pub children : ChildrenDoes
   pub evaluate-number : EvaluateNumber
   pub evaluate-accepts : EvaluateAccepts
-  pub evaluate-declines : EvaluateRefuses
-  pub evaluate-writes : EvaluateDoes
+  pub evaluate-refuses : EvaluateRefuses
+  pub evaluate-does : EvaluateDoes
   pub mark-number : MarkNumber
   pub mark-accepts : MarkAccepts
-  pub mark-declines : MarkRefuses
-  pub mark-says : MarkDoes
+  pub mark-refuses : MarkRefuses
+  pub mark-does : MarkDoes
   pub survey-number : SurveyNumber
   pub survey-accepts : SurveyAccepts
-  pub survey-declines : SurveyRefuses
+  pub survey-refuses : SurveyRefuses
   pub move-number : MoveNumber
   pub move-accepts : MoveAccepts
-  pub move-declines : MoveRefuses
+  pub move-refuses : MoveRefuses
   pub run-number : RunNumber
   pub run-accepts : RunAccepts
-  pub run-declines : RunRefuses
+  pub run-refuses : RunRefuses
 
 -- ---- demand 2
 

@@ -212,9 +212,9 @@ pub check-accepts : CheckAccepts
 unfolding checkEffect
 check-accepts m = (λ e. described m (was m e), λ d. rw (eq-eqb (verdict m) 0 (of-described m d)))
 
-pub check-says : CheckDoes
+pub check-does : CheckDoes
 unfolding checkEffect inputsBefore
-check-says m e = rw (eq-eqb (verdict m) 0 (was m e)) (record {
+check-does m e = rw (eq-eqb (verdict m) 0 (was m e)) (record {
   number = refl;
   gates = refl;
   inputs = record {
@@ -232,9 +232,9 @@ check-says m e = rw (eq-eqb (verdict m) 0 (was m e)) (record {
       | inr z ↦ absurd (true≢false (sym q ∙ gate-kind (kindByte m g) (eqb-false _ _ z)))
     ]
 
-pub check-declines : CheckRefuses
+pub check-refuses : CheckRefuses
 unfolding checkEffect
-check-declines m e = elim (which (eqb (verdict m) 0)) [
+check-refuses m e = elim (which (eqb (verdict m) 0)) [
   | inl q ↦ absurd (true≢false (rw q at e))
   | inr q ↦ rw q (record { numbered = eqb-false (verdict m) 0 q; zeros = (refl, (refl, (refl, refl))) })
 ]

@@ -95,8 +95,8 @@ module _ (m : List ℕ) (g : ℕ) where
     | inr h ↦ rw h (omega arith)
   ]
 
-pub stretch-is : ChildrenDoes
-stretch-is m g = record {
+pub children-does : ChildrenDoes
+children-does m g = record {
   place = λ v l. stretch-place m g (has-gate m g v l);
   long = λ v l. stretch-long m g (has-gate m g v l);
   within = stretch-within m g;

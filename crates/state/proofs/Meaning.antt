@@ -71,8 +71,8 @@ module _ (m row out : List ℕ) where
   unfolding rowTests inputsBefore
   of-row k l = past _ _ _ (eq-eqb _ _ (k .long)) ∙ past _ _ _ (of-bits row (k .bits)) ∙ past _ _ _ (le-leb _ _ l) ∙ no-test
 
-pub evaluate-writes : EvaluateDoes
-evaluate-writes m row out e =
+pub evaluate-does : EvaluateDoes
+evaluate-does m row out e =
     let n = none m row out e in
     let (v, t) = behind m (rowTests m row out) n in
     let (k, r) = row-of m row out t in
@@ -102,9 +102,9 @@ evaluate-number m row out =
     tested 14 _ _ n _ _ e10 (leb-true _ _) (le-leb _ _) λ q14 e14.
     e14 ∙ no-test
 
-pub evaluate-declines : EvaluateRefuses
+pub evaluate-refuses : EvaluateRefuses
 unfolding evaluateEffect evaluateBy
-evaluate-declines m row out e = elim (which (eqb (row-number m row out) 0)) [
+evaluate-refuses m row out e = elim (which (eqb (row-number m row out) 0)) [
   | inl q ↦ absurd (true≢false (rw q at e))
   | inr q ↦ rw q (record { numbered = eqb-false (row-number m row out) 0 q; untouched = refl })
 ]
@@ -132,8 +132,8 @@ pub of-configuration : (m s : List ℕ) → Configuration (circuit m) s → firs
 unfolding configurationTests
 of-configuration m s k = past _ _ _ (eq-eqb _ _ (k .long)) ∙ past _ _ _ (of-bits s (k .bits)) ∙ no-test
 
-pub mark-says : MarkDoes
-mark-says m s = (
+pub mark-does : MarkDoes
+mark-does m s = (
   λ e. (let (n, q) = said-yes m s e in let (v, t) = behind m (configurationTests m s) n in
       (v, mark-is (circuit m) s (configuration-of m s t) .0 q)),
   λ a. says-yes m s (behind-accepted m _ (a .0) ∙ of-configuration m s (a .1 .configuration)) (mark-is (circuit m) s (a .1 .configuration) .1 (a .1)),
@@ -171,9 +171,9 @@ mark-number m s =
     let n = markEffect m s .number in
     map-number m _ n _ (mark-number-is m s) λ v e. configuration-number m s [] n (n ≡ 0) e (λ k f. f ∙ no-test)
 
-pub mark-declines : MarkRefuses
+pub mark-refuses : MarkRefuses
 unfolding markEffect markBy
-mark-declines m s e = elim (which (eqb (firstFailed (mapTests m ++ configurationTests m s)) 0)) [
+mark-refuses m s e = elim (which (eqb (firstFailed (mapTests m ++ configurationTests m s)) 0)) [
   | inl q ↦ absurd (true≢false (rw q at e))
   | inr q ↦ rw q (record { numbered = eqb-false _ 0 q; not-yes = refl })
 ]

@@ -58,8 +58,8 @@ module _ (m s out : List ℕ) where
   unfolding surveyEffect surveyBy
   written e = rw (eq-eqb number 0 e)
 
-pub survey-writes : SurveyDoes
-survey-writes m s out e =
+pub survey-does : SurveyDoes
+survey-does m s out e =
     let n = none m s out e in
     let (v, t) = behind m (surveyTests m s out) n in
     let (k, r) = room m s out t in
@@ -100,9 +100,9 @@ survey-number m s out =
     tested 14 _ _ n _ _ e11 (leb-true _ _) (le-leb _ _) λ q14 e14.
     e14 ∙ no-test
 
-pub survey-declines : SurveyRefuses
+pub survey-refuses : SurveyRefuses
 unfolding surveyEffect surveyBy
-survey-declines m s out e = elim (which (eqb (number m s out) 0)) [
+survey-refuses m s out e = elim (which (eqb (number m s out) 0)) [
   | inl q ↦ absurd (true≢false (rw q at e))
   | inr q ↦ rw q (record { numbered = eqb-false (number m s out) 0 q; zeros = (refl, refl); untouched = refl })
 ]

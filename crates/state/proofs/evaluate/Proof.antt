@@ -1,6 +1,6 @@
 use denote.Ref.{now}
 use mathlib.Core.Path.{_∙_}
-use Rattle.map.proofs.Answers.{WasAccepted, accepted-by, declined-by, behind-accepted}
+use Rattle.map.proofs.Answers.{WasAccepted, accepted-by, map-refused-by, behind-accepted}
 use Rattle.state.specs.State.{evaluateEffect, evaluateOnMap}
 use Rattle.state.proofs.Answers.{refused-by}
 use borrow.Author.Needs.{needs}
@@ -23,7 +23,7 @@ returns : tie.Need-returns
 unfolding evaluateEffect
 returns c =
     let k : tie.After-check = search in
-    let d = declined-by _ _ _ _ (k .check .ensures) (c .before .k .given .1) in
+    let d = map-refused-by _ _ _ _ (k .check .ensures) (c .before .k .given .1) in
     refused-by _ _ _ _ _ (d .number) (d .some)
 
 returns-2 : tie.Need-returns-2
