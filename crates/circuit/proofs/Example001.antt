@@ -4,13 +4,12 @@ use mathlib.Core.Path.{_≡_, refl, sym, ap, _∙_}
 use mathlib.Core.Logic.{_⊎_, inl, inr}
 use mathlib.Core.Bool.{Bool, true, false, true≢false}
 use mathlib.Core.Option.{Option, none, some}
-use mathlib.Core.List.{map}
 use mathlib.Core.List.{List·Memᴰ as In, List·Memᴰ·head as here, List·Memᴰ·tail as there, List·Memᴰ·cases-cons as cases, List·Memᴰ·not-nil as nowhere}
 use native.Mathlib.Omega.{arith}
 use Rattle.folds.specs.Folds.{_and_}
 use Rattle.folds.proofs.Tests.{and-first-false, and-second-false}
 use Rattle.circuit.specs.Gate.{And, gives}
-use Rattle.circuit.specs.Source001.{Partial, Has, Extends, Justification, Minimal, justificationsOfT1, minimalOfT1, childrenOfT1, ExampleIs001}
+use Rattle.circuit.specs.Source001.{Partial, Has, Justification, Minimal, justificationsOfT1, minimalOfT1, childrenOfT1, ExampleIs001}
 use Rattle.circuit.proofs.Justification.{never, some-is, has-or-not, just, just-at, just-has}
 
 abbrev Children : Partial → Type 0
@@ -133,8 +132,8 @@ is-minimal σ k m = elim (cases m) [
 
 minimal-is : (σ : Partial) → MinimalForT1 σ → In (σ 3, σ 2) minimalOfT1
 minimal-is σ m = elim (needed σ (m .justifies)) [
-  | inl q ↦ here (rw (q, only σ m 3 2 (enough (just 3 false) (just-child 3 (there (here refl))) (inl (just-at 3 false))) q (λ e. absurd (omega arith))))
-  | inr q ↦ there (here (rw (q, only σ m 2 3 (enough (just 2 false) (just-child 2 (here refl)) (inr (just-at 2 false))) q (λ e. absurd (omega arith)))))
+  | inl q ↦ rw (q, only σ m 3 2 (enough (just 3 false) (just-child 3 (there (here refl))) (inl (just-at 3 false))) q (λ e. absurd (omega arith))) (here refl)
+  | inr q ↦ rw (q, only σ m 2 3 (enough (just 2 false) (just-child 2 (here refl)) (inr (just-at 2 false))) q (λ e. absurd (omega arith))) (there (here refl))
 ]
 
 pub example-is : ExampleIs001
