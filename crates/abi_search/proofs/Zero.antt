@@ -5,7 +5,8 @@ use Rattle.map.specs.Check.{firstFailed, mapTests}
 use Rattle.search.specs.Move.{moveTests, MoveEffect, moveBy, moveEffect}
 use Rattle.map.specs.Map.{circuit}
 use Rattle.tape.specs.Tape.{entries}
-use Rattle.search.specs.Run.{runTests, EndingValues, RunEffect, runBy, runEffect}
+use Rattle.search.specs.Run.{runTests, RunEffect, runBy, runEffect}
+use Rattle.circuit.specs.Run.{EndingValues}
 use Rattle.search.proofs.Endings.{run-ends}
 use Rattle.abi_state.proofs.Zero.{zero-of}
 use Rattle.abi_search.specs.Numbers.{ZeroIsAccepted}

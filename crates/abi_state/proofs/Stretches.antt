@@ -6,7 +6,7 @@ use mathlib.Core.List.{List}
 use Rattle.map.specs.Map.{gateCount, childrenAt, fanIn, firstChild}
 use Rattle.map.specs.Check.{verdict}
 use Rattle.map.specs.Children.{hasGate, stretchAt, stretchLength}
-use Rattle.map.proofs.Parts.{declined, past-end, children-does}
+use Rattle.map.proofs.Parts.{no-map as refused-map, past-end, children-does}
 
 module _ (m : List ℕ) (g : ℕ) where
   none : hasGate m g ≡ false → (0 ≡ stretchAt m g) × (0 ≡ stretchLength m g)
@@ -14,7 +14,7 @@ module _ (m : List ℕ) (g : ℕ) where
   none h = rw h (refl, refl)
 
   pub no-map : (verdict m ≡ 0 → ⊥) → (0 ≡ stretchAt m g) × (0 ≡ stretchLength m g)
-  no-map h = none (declined m g h)
+  no-map h = none (refused-map m g h)
 
   pub no-gate : gateCount m ≤ g → (0 ≡ stretchAt m g) × (0 ≡ stretchLength m g)
   no-gate h = none (past-end m g h)

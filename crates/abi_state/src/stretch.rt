@@ -3,7 +3,8 @@ use map::Checked;
 use map::Counts;
 use map::decode;
 ghost use mathlib.Core.Path.{_≡_};
-ghost use Rattle.map.specs.Check.{verdict, Counted};
+ghost use Rattle.map.specs.Check.{verdict};
+ghost use Rattle.map.specs.Inner.{Counted};
 ghost use Rattle.map.specs.Children.{stretchAt, stretchLength};
 
 // A part of the map: where it starts, and how many bytes it has.

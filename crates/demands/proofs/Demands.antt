@@ -15,7 +15,7 @@ use Rattle.circuit.specs.declared.Entry.{Entry}
 use Rattle.circuit.specs.Circuit.{WellFormed}
 use Rattle.circuit.specs.Evaluate.{Satisfying, KeepsCodes, differ}
 use Rattle.circuit.specs.Survey.{survey}
-use Rattle.circuit.specs.Run.{RunResult, run, answer}
+use Rattle.circuit.specs.Run.{RunResult, run, answer, EndingValues, told}
 use Rattle.circuit.specs.Promise.{config, Promised, FinishingTape}
 use Rattle.circuit.proofs.Values.{bit-same}
 use Rattle.circuit.proofs.Evaluate.{row-is, row-first, evaluate-again}
@@ -25,20 +25,21 @@ use Rattle.circuit.proofs.Trace.{demand2-on-circuits}
 use Rattle.circuit.proofs.Turns.{differ-most}
 use Rattle.circuit.proofs.Finish.{demand3-on-circuits}
 use Rattle.map.specs.Map.{mostGates, gateCount, codeCount, codeGate, codeValue, circuit}
-use Rattle.map.specs.Check.{firstFailed, mapTests, verdict, IsMap}
+use Rattle.map.specs.Check.{firstFailed, mapTests, verdict}
+use Rattle.map.specs.Inner.{IsMap}
 use Rattle.map.proofs.Accepted.{facts, well-formed}
 use Rattle.map.proofs.Codes.{code-found}
 use Rattle.map.proofs.Described.{map-accepts, check-number, check-accepts, check-does, check-refuses, accepted-maps}
 use Rattle.map.proofs.Parts.{children-does}
-use Rattle.state.specs.State.{over}
+use Rattle.state.specs.State.{over, Satisfies}
 use Rattle.state.proofs.Over.{over-first, over-rest, over-long}
 use Rattle.state.proofs.Meaning.{evaluate-does, evaluate-accepts, evaluate-number, evaluate-refuses, mark-does, mark-accepts, mark-number, mark-refuses}
 use Rattle.survey.proofs.Meaning.{survey-does, survey-accepts, survey-number, survey-refuses}
 use Rattle.tape.specs.Tape.{mostEntries, entries}
-use Rattle.search.specs.Run.{tapeTests, runTests, EndingValues, told, answerMemory, runEnded, runBy, runEffect, Room, Runnable}
+use Rattle.search.specs.Run.{tapeTests, runTests, answerMemory, runEnded, runBy, runEffect, Room, Runnable}
 use Rattle.search.proofs.Runs.{survey-length, answer-length}
 use Rattle.search.proofs.Endings.{run-ends}
-use Rattle.demands.specs.Demands.{Satisfies, FoundWrites, RunMeans, Demand1, Demand2, SameRun, SameForAllMemories, AreDraws, Way, Plain, tapeOf, Finishing, Demand3}
+use Rattle.demands.specs.Demands.{FoundWrites, RunMeans, Demand1, Demand2, SameRun, SameForAllMemories, AreDraws, Way, Plain, tapeOf, Finishing, Demand3}
 use Rattle.demands.proofs.Moves.{move-does, move-accepts, move-number, move-refuses}
 use Rattle.demands.proofs.Runs.{of-room, none, written, runnable, of-runnable, found-accepted, run-accepts, run-number, run-refuses, run-few, front-few}
 use Rattle.demands.proofs.Tapes.{entries-length, entry-is, entry-read, waysOf, ways-length, ways-plain, entries-back, tape-length, tape-kinds, tape-bytes}

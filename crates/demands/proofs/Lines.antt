@@ -17,7 +17,8 @@ use Rattle.circuit.specs.Gate.{kindOf, isInput}
 use Rattle.circuit.specs.Evaluate.{rowOf}
 use Rattle.circuit.proofs.Lists.{select-length, length-upTo}
 use Rattle.map.specs.Map.{mostGates, u16At, gateCount, kindByte}
-use Rattle.map.specs.Check.{Shaped, verdict}
+use Rattle.map.specs.Check.{verdict}
+use Rattle.map.specs.Inner.{Shaped}
 use Rattle.map.proofs.Accepted.{facts}
 use Rattle.map.proofs.Answers.{behind-refused}
 use Rattle.search.specs.Run.{runTests, runBy, runEffect, Room}

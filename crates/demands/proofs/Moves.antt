@@ -17,7 +17,8 @@ use Rattle.circuit.specs.Promise.{NoFront}
 use Rattle.circuit.proofs.Survey.{survey-is}
 use Rattle.circuit.proofs.Moves.{no-front, some-front, entry-done}
 use Rattle.map.specs.Map.{gateCount, circuit}
-use Rattle.map.specs.Check.{firstFailed, mapTests, IsMap}
+use Rattle.map.specs.Check.{firstFailed, mapTests}
+use Rattle.map.specs.Inner.{IsMap}
 use Rattle.map.proofs.Laws.{past, no-test, none-failed}
 use Rattle.map.proofs.Accepted.{facts, well-formed}
 use Rattle.map.proofs.Answers.{behind-accepted}

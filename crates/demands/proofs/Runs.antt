@@ -17,7 +17,7 @@ use Rattle.circuit.specs.Evaluate.{KeepsCodes}
 use Rattle.circuit.specs.declared.Ending.{Ending}
 use Rattle.circuit.specs.declared.Ending.the-variants.{Found}
 use Rattle.circuit.specs.Survey.{inFront, front, frontSize}
-use Rattle.circuit.specs.Run.{move, run}
+use Rattle.circuit.specs.Run.{move, run, EndingValues, told}
 use Rattle.circuit.proofs.Lists.{select-length, length-upTo}
 use Rattle.circuit.proofs.Moves.{entry-done}
 use Rattle.circuit.proofs.Trace.{run-found, run-spent, run-step}
@@ -30,7 +30,7 @@ use Rattle.map.proofs.Described.{tested, map-number}
 use Rattle.state.proofs.Meaning.{behind}
 use Rattle.survey.proofs.Starts.{behind-start, of-start, start-number}
 use Rattle.tape.specs.Tape.{mostTape, entries, tapeTest}
-use Rattle.search.specs.Run.{tapeTests, runTests, EndingValues, told, runEnded, runBy, runEffect, Room, Runnable, RunAccepts, RunNumber, RunRefuses}
+use Rattle.search.specs.Run.{tapeTests, runTests, runEnded, runBy, runEffect, Room, Runnable, RunAccepts, RunNumber, RunRefuses}
 use Rattle.search.proofs.Passed.{room-of, run-passed}
 use Rattle.search.proofs.Endings.{run-ends}
 use Rattle.demands.proofs.Tapes.{kinds-of, of-kinds}

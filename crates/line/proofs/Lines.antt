@@ -10,7 +10,7 @@ use borrow.Author.Tests.{leb-true, le-leb, lt-leb, eqb-true, eq-eqb}
 use Rattle.folds.proofs.Tests.{and-left, and-right, and-both}
 use Rattle.circuit.specs.declared.Ending.the-variants.{Found}
 use Rattle.map.specs.Map.{u16At}
-use Rattle.map.specs.Check.{Shaped}
+use Rattle.map.specs.Inner.{Shaped}
 use Rattle.map.proofs.Accepted.{facts}
 use Rattle.search.specs.Run.{runEffect}
 use Rattle.search.proofs.Endings.{found-passes}

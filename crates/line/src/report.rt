@@ -7,7 +7,7 @@ ghost use Prim.Native.Nat.{_+_, _<_, _≤_};
 ghost use lib.ListN.{length};
 ghost use Rattle.circuit.specs.declared.Ending.the-variants.{Found};
 ghost use Rattle.map.specs.Map.{mostGates, gateCount};
-ghost use Rattle.map.specs.Check.{Shaped};
+ghost use Rattle.map.specs.Inner.{Shaped};
 ghost use Rattle.line.specs.Text.{Wrote};
 ghost use Rattle.line.specs.Line.{lineRoom, inputText, rowText, countsText, foundLine, spentLine, refusedLine, report};
 

@@ -18,7 +18,8 @@ use Rattle.circuit.specs.Circuit.{coded, WellFormed}
 use Rattle.circuit.proofs.Lists.{in-upTo, length-upTo, map-append, rising-end}
 use Rattle.map.specs.Map.{gateCount, codeCount, fanIn, childAt, codeGate, kidsOf, circuit}
 use Rattle.kinds.specs.Kinds.{kindFits}
-use Rattle.map.specs.Check.{kindTest, positionsTest, childTest, childrenTest, codeTest, freeTest, firstFailed, contentsTests, bodiesTests, mapTests, verdict, IsMap}
+use Rattle.map.specs.Check.{kindTest, positionsTest, childTest, childrenTest, codeTest, freeTest, firstFailed, contentsTests, bodiesTests, mapTests, verdict}
+use Rattle.map.specs.Inner.{IsMap}
 use Rattle.map.proofs.Laws.{none-failed, contents-passed, contents-some, placed-of, sound-of, passed-before, passes-before, contents-numbered}
 
 -- a table of rising numbers rises

@@ -246,7 +246,6 @@ accepted-maps m v =
     let k = facts m v in
     let w = well-formed m k in
     record {
-      facts = k;
       circuit-is = w;
       kinds-are = λ g h. kind-is (kindByte m g) (fanIn m g) (d .kinds g h);
       fan-ins-are = kids-length m k;

@@ -20,7 +20,8 @@ use Rattle.circuit.specs.Circuit.{coded}
 use Rattle.circuit.specs.Evaluate.{inputsBefore}
 use Rattle.circuit.proofs.Lists.{place-more}
 use Rattle.map.specs.Map.{mostGates, u16At, childrenAt, gateCount, childCount, codeCount, kindByte, fanIn, firstChild, fanInsBefore, codesAt, codeGate, codeAmong, circuit}
-use Rattle.map.specs.Check.{offsetsTest, positionTest, positionsTest, childTest, childrenTest, codeTest, freeTest, firstFailed, contentsTests, Shaped, Placed, Sound, CodeMarks}
+use Rattle.map.specs.Check.{offsetsTest, positionTest, positionsTest, childTest, childrenTest, codeTest, freeTest, firstFailed, contentsTests}
+use Rattle.map.specs.Inner.{Shaped, Placed, Sound, CodeMarks}
 
 -- ---- the sum of the fan-ins
 

@@ -14,14 +14,14 @@ use Rattle.circuit.specs.Gate.{isInput, kindOf}
 use Rattle.map.specs.Map.{u16At, gateCount, childrenAt, kindByte, fanIn, firstChild, childAt}
 use Rattle.kinds.specs.Kinds.{kindFits}
 use Rattle.map.specs.Check.{kindTest, verdict}
-use Rattle.map.specs.Children.{PartOf, hasGate, stretchAt, stretchLength, ChildrenDoes}
+use Rattle.map.specs.Children.{hasGate, stretchAt, stretchLength, childrenAnswer, childrenEffect, ChildrenDoes}
 use Rattle.map.proofs.Accepted.{facts}
 
 -- ---- which gates have one
 
-pub declined : (m : List ℕ) (g : ℕ) → (verdict m ≡ 0 → ⊥) → hasGate m g ≡ false
+pub no-map : (m : List ℕ) (g : ℕ) → (verdict m ≡ 0 → ⊥) → hasGate m g ≡ false
 unfolding hasGate
-declined m g h = and-first-false _ _ (ne-eqb (verdict m) 0 h)
+no-map m g h = and-first-false _ _ (ne-eqb (verdict m) 0 h)
 
 pub past-end : (m : List ℕ) (g : ℕ) → gateCount m ≤ g → hasGate m g ≡ false
 unfolding hasGate
@@ -33,16 +33,16 @@ has-gate m g v h = and-both _ _ (eq-eqb (verdict m) 0 v) (lt-ltb g (gateCount m)
 
 -- ---- the part
 
-pub empty-part : (m r : RefT (List ℕ)) (g : ℕ) → r .ptr ≡ (m .ptr .0, 0 + m .ptr .1) → r .now ≡ take 0 (drop 0 (m .now))
-    → hasGate (m .now) g ≡ false → PartOf m r (stretchAt (m .now) g) (stretchLength (m .now) g)
-unfolding stretchAt stretchLength
-empty-part m r g p b h = rw h (record { place = p; within = omega arith; bytes = b })
+pub empty-part : (m r : RefT (List ℕ)) (g : ℕ) → r .ptr ≡ (m .ptr .0, 0 + m .ptr .1) → r .now ≡ take 0 (drop 0 (m .now)) → hasGate (m .now) g ≡ false
+    → childrenAnswer r ≡ childrenEffect m g
+unfolding stretchAt stretchLength childrenAnswer childrenEffect
+empty-part m r g p b h = rw (h, p, b)
 
 pub whole-part : (m r : RefT (List ℕ)) (g a n : ℕ) → r .ptr ≡ (m .ptr .0, a + m .ptr .1) → r .now ≡ take n (drop a (m .now))
-    → a ≡ childrenAt (m .now) + 2 * firstChild (m .now) g → n ≡ 2 * fanIn (m .now) g → a + n ≤ length (m .now)
-    → hasGate (m .now) g ≡ true → PartOf m r (stretchAt (m .now) g) (stretchLength (m .now) g)
-unfolding stretchAt stretchLength
-whole-part m r g a n p b s l w h = rw (h, ← s, ← l) (record { place = p; within = w; bytes = b })
+    → a ≡ childrenAt (m .now) + 2 * firstChild (m .now) g → n ≡ 2 * fanIn (m .now) g → hasGate (m .now) g ≡ true
+    → childrenAnswer r ≡ childrenEffect m g
+unfolding stretchAt stretchLength childrenAnswer childrenEffect
+whole-part m r g a n p b s l h = rw (h, ← s, ← l, p, b)
 
 -- ---- what the stretch holds
 
@@ -103,5 +103,5 @@ children-does m g = record {
   holds = λ v l. stretch-holds m g (has-gate m g v l);
   input = stretch-input m g;
   past-end = λ h. stretch-none m g (past-end m g h);
-  declined = λ h. stretch-none m g (declined m g h);
+  refused = λ h. stretch-none m g (no-map m g h);
 }

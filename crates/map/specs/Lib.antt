@@ -1,4 +1,5 @@
 pub mod Map
 pub mod Check
+pub mod Inner
 pub mod Children
 pub mod Bench

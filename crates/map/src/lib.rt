@@ -4,7 +4,7 @@ mod tests;
 
 ghost use mathlib.Core.Path.{_≡_};
 ghost use Rattle.map.specs.Check.{checkAnswer, checkEffect};
-ghost use Rattle.map.specs.Children.{PartOf, stretchAt, stretchLength};
+ghost use Rattle.map.specs.Children.{childrenAnswer, childrenEffect};
 
 // A map has 1 to this many gates.
 pub const MOST_GATES: usize = 1024;
@@ -32,9 +32,9 @@ pub fn check(map: &[u8]) -> Checked
     Checked::Accepted(decode::counts(map))
 }
 
-// The stretch of the map that holds a gate's children: empty for an input, a gate past the end or a map that Check declines.
+// The stretch of the map that holds a gate's children: empty for an input, a gate past the end or a map that Check refuses.
 pub fn children(map: &[u8], gate: usize) -> &[u8]
-    ensures { λ r. ⌜ PartOf (map .entry) r (stretchAt (now (map .entry)) gate) (stretchLength (now (map .entry)) gate) ⌝ }
+    ensures { λ r. ⌜ childrenAnswer r ≡ childrenEffect (map .entry) gate ⌝ }
 {
     if tests::failed(map) != 0 {
         return &map[0..0];

@@ -9,7 +9,8 @@ ghost use lib.Dec.{eqb, ltb};
 ghost use Rattle.folds.specs.Folds.{_or_, allBelow};
 ghost use Rattle.map.specs.Map.{mostGates, gateCount, codeCount, codesAt, fanIn, codeGate};
 ghost use Rattle.map.specs.Check.{offsetsTest, kindTest, positionsTest, childTest, childrenTest, codeTest, freeTest};
-ghost use Rattle.map.specs.Check.{firstFailed, contentsTests, bodiesTests, verdict, ContentsOf, Shaped, Placed, Sound, CodeMarks};
+ghost use Rattle.map.specs.Check.{firstFailed, contentsTests, bodiesTests, verdict};
+ghost use Rattle.map.specs.Inner.{ContentsOf, Shaped, Placed, Sound, CodeMarks};
 
 // Test 3.
 fn offsets_ok(map: &[u8], n: Contents) -> bool

@@ -12,7 +12,7 @@ ghost use Rattle.circuit.specs.Gate.{kindOf, relevant};
 ghost use Rattle.circuit.specs.Circuit.{on, justified};
 ghost use Rattle.circuit.specs.Survey.{reasons};
 ghost use Rattle.map.specs.Map.{codeCount, circuit};
-ghost use Rattle.map.specs.Check.{Counted, CodeMarks};
+ghost use Rattle.map.specs.Inner.{Counted, CodeMarks};
 ghost use Rattle.marks.specs.Marks.{MarksOf, ConeTurned, paint, toOne};
 
 // Sets every mark to 0.

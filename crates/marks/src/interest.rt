@@ -7,7 +7,7 @@ ghost use lib.ListN.{length};
 ghost use lib.Dec.{leb};
 ghost use Rattle.circuit.specs.Tools.{byte};
 ghost use Rattle.map.specs.Map.{mostGates, kidsOf, circuit};
-ghost use Rattle.map.specs.Check.{Counted};
+ghost use Rattle.map.specs.Inner.{Counted};
 ghost use Rattle.marks.specs.Marks.{paint, markBelow, markItself, interestTurn, ConeMarked, Completed, interestCount};
 
 // The mark of a gate below an interesting one. One that is in the front waits for its own turn.

@@ -20,7 +20,8 @@ use Rattle.circuit.specs.Survey.{frontSize}
 use Rattle.circuit.specs.Run.{move, RunResult, stop, after, run}
 use Rattle.circuit.proofs.Moves.{entry-done}
 use Rattle.circuit.proofs.Trace.{run-found, run-spent, run-step}
-use Rattle.tape.specs.Tape.{entryAt, entriesFrom, entries, tapeTest, stepAt}
+use Rattle.tape.specs.Tape.{entryAt, entriesFrom, entries, tapeTest}
+use Rattle.tape.specs.Inner.{stepAt}
 use Rattle.progress.specs.Advance.{adds, Going, Ends}
 use Rattle.tape.specs.declared.Step.the-variants.{Next, End}
 use Rattle.tape.proofs.Reading.{step-has, step-over}

@@ -8,7 +8,7 @@ use tape::Step;
 ghost use mathlib.Core.Path.{_≡_};
 ghost use lib.ListN.{length};
 ghost use Rattle.map.specs.Map.{circuit};
-ghost use Rattle.map.specs.Check.{Counted};
+ghost use Rattle.map.specs.Inner.{Counted};
 ghost use Rattle.steps.specs.Steps.{Workspace};
 ghost use Rattle.progress.specs.Advance.{Begins, Stands, Advances, IsOver};
 

@@ -1,6 +1,6 @@
 -- How a run ends, and what Found tells of the map. Assumes nothing.
 use Prim.Native.Nat.{ℕ}
-use mathlib.Core.Path.{_≡_, refl, ap}
+use mathlib.Core.Path.{_≡_, refl}
 use mathlib.Core.Bool.{true, false≢true}
 use mathlib.Core.Logic.{inl, inr}
 use mathlib.Core.List.{List, [], _∷_, _++_}
@@ -8,17 +8,16 @@ use lib.Dec.{eqb}
 use lib.ListN.{length}
 use borrow.Author.Tests.{eqb-true}
 use Rattle.folds.proofs.Tests.{which}
-use Rattle.circuit.specs.declared.Ending.{Ending}
 use Rattle.circuit.specs.declared.Ending.the-variants.{Found}
 use Rattle.circuit.specs.declared.Entry.{Entry}
 use Rattle.circuit.specs.Tools.{isEmpty}
 use Rattle.circuit.specs.Circuit.{Circuit}
 use Rattle.circuit.specs.Survey.{front, frontSize}
-use Rattle.circuit.specs.Run.{move, RunResult, stop, run}
+use Rattle.circuit.specs.Run.{move, RunResult, stop, run, told}
 use Rattle.circuit.proofs.Trace.{run-found, run-spent, run-step}
 use Rattle.map.specs.Check.{firstFailed, mapTests, verdict}
 use Rattle.map.proofs.Laws.{passed-before}
-use Rattle.search.specs.Run.{runTests, told, runBy, runEffect}
+use Rattle.search.specs.Run.{runTests, runAnswer, runBy, runEffect}
 
 -- how a run on a circuit ends: it is never refused, it found where the last configuration has no front, and the front that its ending carries is that one's
 abbrev pub Ends : Circuit → RunResult → Type 0
@@ -43,9 +42,9 @@ run-ends c s (e ∷ es) = elim (which (isEmpty (front c s))) [
 ]
 
 -- a run that found was on an accepted map
-pub found-passes : (m s tape work ans : List ℕ) → runEffect m s tape work ans .outcome .ending ≡ Found → verdict m ≡ 0
-unfolding runEffect runBy verdict
+pub found-passes : (m s tape work ans : List ℕ) → runEffect m s tape work ans .found ≡ true → verdict m ≡ 0
+unfolding runEffect runBy runAnswer verdict
 found-passes m s tape work ans f = elim (which (eqb (firstFailed (mapTests m ++ runTests m s tape work ans)) 0)) [
   | inl q ↦ passed-before (mapTests m) (runTests m s tape work ans) (eqb-true _ 0 q)
-  | inr q ↦ absurd (false≢true (ap (λ (e : Ending). told e .accepted) (rw q at f)))
+  | inr q ↦ absurd (false≢true (rw q at f))
 ]

@@ -14,7 +14,7 @@ use Rattle.map.specs.Check.{firstFailed}
 use Rattle.map.proofs.Laws.{none-failed, passed-before, fails-before, passes-before, Numbered}
 use Rattle.survey.specs.Survey.{startTests}
 use Rattle.survey.proofs.Starts.{behind-start, start-of}
-use Rattle.search.specs.Passed.{RunTested, MoveTested}
+use Rattle.search.specs.Inner.{RunTested, MoveTested}
 use Rattle.search.specs.Move.{frontTest, entryTests, moveTests}
 use Rattle.search.specs.Run.{tapeTests, runTests, Room}
 

@@ -4,7 +4,7 @@ use mathlib.Core.Path.{_≡_}
 use mathlib.Core.Logic.{_↔_}
 use mathlib.Core.Bool.{Bool, true, false, cond, not}
 use mathlib.Core.List.{List, [], _∷_, _++_}
-use lib.ListN.{length, getD, take, drop}
+use lib.ListN.{length, take, drop}
 use lib.Dec.{eqb, leb}
 use Rattle.circuit.specs.Tools.{isEmpty}
 use Rattle.circuit.specs.Survey.{front, survey}
@@ -13,12 +13,12 @@ use Rattle.circuit.specs.Run.{entryTurns, move}
 use Rattle.circuit.specs.Source001.{Front, TurnsExactly}
 use Rattle.circuit.specs.Promise.{NoFront, EntryDone}
 use Rattle.map.specs.Map.{gateCount, circuit}
-use Rattle.map.specs.Check.{firstFailed, mapTests, verdict, Test, MapNumber}
-use Rattle.state.specs.State.{over}
-use Rattle.survey.specs.Survey.{startTests, StartNumber}
+use Rattle.map.specs.Check.{firstFailed, mapTests, Test, MapNumber}
+use Rattle.state.specs.State.{over, HasRoom}
+use Rattle.survey.specs.Survey.{startTests, IsStart, StartNumber}
 use Rattle.search.specs.declared.Moved.{Moved}
 use Rattle.search.specs.declared.Moved.the-variants.{Done, Refused}
-use Rattle.tape.specs.Tape.{entryAt, EntryRead, kindsTest}
+use Rattle.tape.specs.Tape.{entryAt, EntryRead, kindsTest, KindAllowed}
 
 -- ---- the tests
 
@@ -37,8 +37,7 @@ moveTests m s entry work = startTests m s ++ (entryTests m entry work ++ ((15, f
 
 -- ---- Move
 
--- Move's answer, whether the call is accepted and else its number, "the drawn gate and how many values it turned", and the two lent memories after
--- the call
+-- What Move does: whether the call is accepted and else its number, "the drawn gate and how many values it turned", and the two lent memories after the call
 pub record MoveEffect : Type 0 where
   pub accepted : Bool
   pub number : ℕ
@@ -47,13 +46,13 @@ pub record MoveEffect : Type 0 where
   pub configuration : List ℕ
   pub work : List ℕ
 
--- document 01's number and values of each case of the answer, beside the memories
+-- document 01's number and values of each case of the answer that is returned, beside the memories
 unfoldable pub moveAnswer : Moved → List ℕ → List ℕ → MoveEffect
 moveAnswer (Done t) s w = record { accepted = true; number = 0; gate = t .gate; turned = t .turned; configuration = s; work = w }
 moveAnswer (Refused n) s w = record { accepted = false; number = n; gate = 0; turned = 0; configuration = s; work = w }
 
 -- what a call with this number gives and leaves: "Move does one entry and returns the drawn gate and how many values it turned (1 to 8). The lent
--- configuration is then the new one, and the first bytes of the work memory, one per gate, are its survey."; declined, it "leaves all lent memory
+-- configuration is then the new one, and the first bytes of the work memory, one per gate, are its survey."; refused, it "leaves all lent memory
 -- untouched; the other numbers of its answer .. are then 0"
 unfoldable pub moveBy : ℕ → List ℕ → List ℕ → List ℕ → List ℕ → MoveEffect
 moveBy n m s entry work =
@@ -76,8 +75,7 @@ moveEffect m s entry work = moveBy (firstFailed (mapTests m ++ moveTests m s ent
 -- Of an accepted call: what its one entry does is `EntryDone`, document 01's move with the options of source document 001; the record and the two
 -- memories say so. (What `survey` says of a configuration is 001's: `SurveyIs001`.)
 pub record MoveMeans (m s entry work : List ℕ) (r : MoveEffect) : Type 0 where
-  pub accepted : verdict m ≡ 0
-  pub start : KeepsCodes (circuit m) s
+  pub start : IsStart m s
   pub read : EntryRead entry 0 (entryAt entry 0)
   pub does : EntryDone (circuit m) s (entryAt entry 0)
   pub number : r .number ≡ 0
@@ -92,15 +90,19 @@ pub record MoveMeans (m s entry work : List ℕ) (r : MoveEffect) : Type 0 where
 abbrev pub MoveDoes : Type 0
 MoveDoes = (m s entry work : List ℕ) → moveEffect m s entry work .accepted ≡ true → MoveMeans m s entry work (moveEffect m s entry work)
 
--- Move is accepted exactly for accepted maps, starts that keep the codes, an entry of 4 bytes with a kind up to 2, memory that is long enough, and a
--- front that is not empty.
+-- Move is accepted exactly for starts, an entry of 4 bytes with a kind up to 2, memory that is long enough, and a front that is not empty.
+abbrev pub FourBytes : List ℕ → Type 0
+FourBytes entry = length entry ≡ 4
+
+abbrev pub SomeFront : List ℕ → List ℕ → Type 0
+SomeFront m s = ¬ NoFront (circuit m) s
+
 pub record Movable (m s entry work : List ℕ) : Type 0 where
-  pub accepted : verdict m ≡ 0
-  pub start : KeepsCodes (circuit m) s
-  pub four-bytes : length entry ≡ 4
-  pub kind : getD entry 2 0 ≤ 2
-  pub room : gateCount m ≤ length work
-  pub some-front : ¬ NoFront (circuit m) s
+  pub start : IsStart m s
+  pub four-bytes : FourBytes entry
+  pub kind : KindAllowed entry 0
+  pub room : HasRoom m work
+  pub some-front : SomeFront m s
 
 abbrev pub MoveAccepts : Type 0
 MoveAccepts = (m s entry work : List ℕ) → (moveEffect m s entry work .accepted ≡ true) ↔ Movable m s entry work
@@ -108,10 +110,10 @@ MoveAccepts = (m s entry work : List ℕ) → (moveEffect m s entry work .accept
 -- Its number: 12 to 15 behind those of the map and of a start
 abbrev pub EntryNumber : ℕ → List ℕ → List ℕ → List ℕ → List ℕ → Type 0
 EntryNumber n m s entry work =
-    Test n 12 (length entry ≡ 4) (
-    Test n 13 (getD entry 2 0 ≤ 2) (
-    Test n 14 (gateCount m ≤ length work) (
-    Test n 15 (¬ NoFront (circuit m) s) (n ≡ 0))))
+    Test n 12 (FourBytes entry) (
+    Test n 13 (KindAllowed entry 0) (
+    Test n 14 (HasRoom m work) (
+    Test n 15 (SomeFront m s) (n ≡ 0))))
 
 abbrev pub MoveNumber : Type 0
 MoveNumber = (m s entry work : List ℕ)
@@ -119,7 +121,7 @@ MoveNumber = (m s entry work : List ℕ)
     StartNumber (moveEffect m s entry work .number) m s (
     EntryNumber (moveEffect m s entry work .number) m s entry work))
 
--- Declined, it gives a number, "leaves all lent memory untouched; the other numbers of its answer .. are then 0".
+-- Refused, it gives a number, "leaves all lent memory untouched; the other numbers of its answer .. are then 0".
 pub record MoveRefused (s work : List ℕ) (r : MoveEffect) : Type 0 where
   pub numbered : ¬ (r .number ≡ 0)
   pub zeros : (r .gate ≡ 0) × (r .turned ≡ 0)
@@ -127,12 +129,3 @@ pub record MoveRefused (s work : List ℕ) (r : MoveEffect) : Type 0 where
 
 abbrev pub MoveRefuses : Type 0
 MoveRefuses = (m s entry work : List ℕ) → moveEffect m s entry work .accepted ≡ false → MoveRefused s work (moveEffect m s entry work)
-
--- ---- for inner functions
-
--- Move behind the map's tests, and behind all but 15
-unfoldable pub moveOnMap : List ℕ → List ℕ → List ℕ → List ℕ → MoveEffect
-moveOnMap m s entry work = moveBy (firstFailed (moveTests m s entry work)) m s entry work
-
-unfoldable pub moveOnEntry : List ℕ → List ℕ → List ℕ → List ℕ → MoveEffect
-moveOnEntry m s entry work = moveBy (firstFailed ((15, frontTest m s) ∷ [])) m s entry work

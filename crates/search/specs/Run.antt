@@ -1,24 +1,23 @@
 -- Document 01's Run, on bytes. What it means is proved in `demands`. Assumes nothing.
-use Prim.Native.Nat.{ℕ, _+_, _*_, _%_, _<_, _≤_}
+use Prim.Native.Nat.{ℕ}
 use mathlib.Core.Path.{_≡_}
 use mathlib.Core.Logic.{_↔_}
 use mathlib.Core.Bool.{Bool, true, false, cond}
 use mathlib.Core.List.{List, [], _∷_, _++_}
-use lib.ListN.{length, getD}
+use lib.ListN.{length}
 use lib.Dec.{eqb, leb}
 use Rattle.folds.specs.Folds.{_and_}
 use Rattle.circuit.specs.declared.Ending.{Ending}
 use Rattle.circuit.specs.declared.Ending.the-variants.{Found, Spent, Refused}
 use Rattle.circuit.specs.declared.Outcome.{Outcome}
 use Rattle.circuit.specs.Circuit.{Circuit}
-use Rattle.circuit.specs.Evaluate.{KeepsCodes}
 use Rattle.circuit.specs.Survey.{survey}
-use Rattle.circuit.specs.Run.{RunResult, run, answer}
+use Rattle.circuit.specs.Run.{told, RunResult, run, answer}
 use Rattle.map.specs.Map.{gateCount, circuit}
-use Rattle.map.specs.Check.{firstFailed, mapTests, verdict, Test, MapNumber}
-use Rattle.state.specs.State.{over}
-use Rattle.survey.specs.Survey.{startTests, StartNumber}
-use Rattle.tape.specs.Tape.{mostTape, entries, tapeTest, kindsTest}
+use Rattle.map.specs.Check.{firstFailed, mapTests, Test, MapNumber}
+use Rattle.state.specs.State.{over, HasRoom}
+use Rattle.survey.specs.Survey.{startTests, IsStart, StartNumber}
+use Rattle.tape.specs.Tape.{entries, tapeTest, kindsTest, LengthAllowed, EntriesAllowed}
 
 -- ---- the tests
 
@@ -32,29 +31,32 @@ runTests m s tape work ans = startTests m s ++ tapeTests m tape work ans
 
 -- ---- Run
 
--- document 01's number and values of each case of an ending: whether the call is accepted, whether it found, the number that declines it, and the front's
--- size that Spent carries
-pub record EndingValues : Type 0 where
-  pub accepted : Bool
-  pub found : Bool
-  pub number : ℕ
-  pub front : ℕ
-
-abbrev pub told : Ending → EndingValues
-told Found = record { accepted = true; found = true; number = 0; front = 0 }
-told (Spent f) = record { accepted = true; found = false; number = 0; front = f }
-told (Refused n) = record { accepted = false; found = false; number = n; front = 0 }
-
--- "A run's answer is one record: its ending, its moves and its flips", what the ending tells, and the three lent memories after the call
+-- What Run does: "A run's answer is one record: its ending, its moves and its flips", the ending by its number and values (whether the call is accepted, the number that
+-- refuses it, whether it found, the front's size that Spent carries), and the three lent memories after the call
 pub record RunEffect : Type 0 where
-  pub outcome : Outcome
-  pub told : EndingValues
+  pub accepted : Bool
+  pub number : ℕ
+  pub found : Bool
+  pub front : ℕ
+  pub moves : ℕ
+  pub flips : ℕ
   pub configuration : List ℕ
   pub work : List ℕ
   pub answer : List ℕ
 
-abbrev pub runAnswer : Outcome → List ℕ → List ℕ → List ℕ → RunEffect
-runAnswer o s w a = record { outcome = o; told = told (o .ending); configuration = s; work = w; answer = a }
+-- of the record that is returned, beside the memories: `told` has the number and values of each case of its ending
+unfoldable pub runAnswer : Outcome → List ℕ → List ℕ → List ℕ → RunEffect
+runAnswer o s w a = record {
+  accepted = told (o .ending) .accepted;
+  number = told (o .ending) .number;
+  found = told (o .ending) .found;
+  front = told (o .ending) .front;
+  moves = o .moves;
+  flips = o .flips;
+  configuration = s;
+  work = w;
+  answer = a;
+}
 
 -- "Found writes the answer memory .. Spent leaves it untouched.": the answer memory after an ending, where x is what Found writes
 abbrev pub answerMemory : Ending → List ℕ → List ℕ → List ℕ
@@ -63,14 +65,14 @@ answerMemory (Spent f) x ans = ans
 answerMemory (Refused n) x ans = ans
 
 -- "After either ending the configuration is the last one and the first bytes of the work memory, one per gate, are its survey."
-abbrev pub runEnded : Circuit → RunResult → List ℕ → List ℕ → RunEffect
+unfoldable pub runEnded : Circuit → RunResult → List ℕ → List ℕ → RunEffect
 runEnded c r work ans = runAnswer (r .outcome) (r .last) (over (survey c (r .last)) work) (answerMemory (r .outcome .ending) (answer c (r .last)) ans)
 
 -- "the other numbers of its answer, as Run's moves and flips, are then 0"
 abbrev pub refusedOutcome : ℕ → Outcome
 refusedOutcome n = record { ending = Refused n; moves = 0; flips = 0 }
 
--- what a call with this number gives and leaves; declined, it "leaves all lent memory untouched"
+-- what a call with this number gives and leaves; refused, it "leaves all lent memory untouched"
 unfoldable pub runBy : ℕ → List ℕ → List ℕ → List ℕ → List ℕ → List ℕ → RunEffect
 runBy n m s tape work ans =
     cond (eqb n 0)
@@ -84,47 +86,38 @@ runEffect m s tape work ans = runBy (firstFailed (mapTests m ++ runTests m s tap
 
 -- number 14 lets these memories through
 pub record Room (m work ans : List ℕ) : Type 0 where
-  pub work-room : gateCount m ≤ length work
-  pub answer-room : gateCount m ≤ length ans
+  pub work-room : HasRoom m work
+  pub answer-room : HasRoom m ans
 
--- Run is accepted exactly for accepted maps, starts that keep the codes, tapes of whole entries, at most 16,383 of them and each of a kind up to 2, and
--- memories that are long enough.
+-- Run is accepted exactly for starts, tapes of whole entries, at most 16,383 of them and each of a kind up to 2, and memories that are long enough.
 pub record Runnable (m s tape work ans : List ℕ) : Type 0 where
-  pub accepted : verdict m ≡ 0
-  pub start : KeepsCodes (circuit m) s
-  pub whole-entries : length tape % 4 ≡ 0
-  pub not-longer : length tape ≤ mostTape
-  pub kinds : (i : ℕ) → 4 * i < length tape → getD tape (4 * i + 2) 0 ≤ 2
+  pub start : IsStart m s
+  pub tape-length : LengthAllowed tape
+  pub kinds : EntriesAllowed tape
   pub room : Room m work ans
 
 abbrev pub RunAccepts : Type 0
-RunAccepts = (m s tape work ans : List ℕ) → (runEffect m s tape work ans .told .accepted ≡ true) ↔ Runnable m s tape work ans
+RunAccepts = (m s tape work ans : List ℕ) → (runEffect m s tape work ans .accepted ≡ true) ↔ Runnable m s tape work ans
 
 -- Its number: 12 to 14 behind those of the map and of a start
 abbrev pub TapeNumber : ℕ → List ℕ → List ℕ → List ℕ → List ℕ → Type 0
 TapeNumber n m tape work ans =
-    Test n 12 ((length tape % 4 ≡ 0) × (length tape ≤ mostTape)) (
-    Test n 13 ((i : ℕ) → 4 * i < length tape → getD tape (4 * i + 2) 0 ≤ 2) (
+    Test n 12 (LengthAllowed tape) (
+    Test n 13 (EntriesAllowed tape) (
     Test n 14 (Room m work ans) (n ≡ 0)))
 
 abbrev pub RunNumber : Type 0
 RunNumber = (m s tape work ans : List ℕ)
-    → MapNumber (runEffect m s tape work ans .told .number) m (
-    StartNumber (runEffect m s tape work ans .told .number) m s (
-    TapeNumber (runEffect m s tape work ans .told .number) m tape work ans))
+    → MapNumber (runEffect m s tape work ans .number) m (
+    StartNumber (runEffect m s tape work ans .number) m s (
+    TapeNumber (runEffect m s tape work ans .number) m tape work ans))
 
--- Declined, it gives a number, "leaves all lent memory untouched; the other numbers of its answer .. are then 0".
+-- Refused, it gives a number, "leaves all lent memory untouched; the other numbers of its answer .. are then 0".
 pub record RunRefused (s work ans : List ℕ) (r : RunEffect) : Type 0 where
-  pub ending : r .outcome .ending ≡ Refused (r .told .number)
-  pub numbered : ¬ (r .told .number ≡ 0)
-  pub zeros : (r .outcome .moves ≡ 0) × ((r .outcome .flips ≡ 0) × (r .told .front ≡ 0))
+  pub numbered : ¬ (r .number ≡ 0)
+  pub not-found : r .found ≡ false
+  pub zeros : (r .moves ≡ 0) × ((r .flips ≡ 0) × (r .front ≡ 0))
   pub untouched : (r .configuration ≡ s) × ((r .work ≡ work) × (r .answer ≡ ans))
 
 abbrev pub RunRefuses : Type 0
-RunRefuses = (m s tape work ans : List ℕ) → runEffect m s tape work ans .told .accepted ≡ false → RunRefused s work ans (runEffect m s tape work ans)
-
--- ---- for inner functions
-
--- Run behind the map's tests
-unfoldable pub runOnMap : List ℕ → List ℕ → List ℕ → List ℕ → List ℕ → RunEffect
-runOnMap m s tape work ans = runBy (firstFailed (runTests m s tape work ans)) m s tape work ans
+RunRefuses = (m s tape work ans : List ℕ) → runEffect m s tape work ans .accepted ≡ false → RunRefused s work ans (runEffect m s tape work ans)

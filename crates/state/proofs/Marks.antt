@@ -15,9 +15,10 @@ use Rattle.circuit.specs.Evaluate.{showsCode, mark}
 use Rattle.circuit.proofs.Values.{bit-same}
 use Rattle.circuit.proofs.Evaluate.{shows-code}
 use Rattle.map.specs.Map.{gateCount, codeCount, codeGate, codeValue, codeAmong, circuit}
-use Rattle.map.specs.Check.{IsMap}
+use Rattle.map.specs.Inner.{IsMap}
 use Rattle.map.proofs.Codes.{code-record, code-found}
-use Rattle.state.specs.State.{shownByRecord, Bits}
+use Rattle.state.specs.State.{Bits}
+use Rattle.state.specs.Inner.{shownByRecord}
 
 module _ (m s : List ℕ) (k : IsMap m) (b : Bits s) where
   abbrev gatesTest : Bool

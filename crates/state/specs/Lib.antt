@@ -1,2 +1,3 @@
 pub mod State
+pub mod Inner
 pub mod Bench

@@ -9,8 +9,7 @@ use lib.Dec.{eqb, leb}
 use Rattle.folds.specs.Folds.{allBelow}
 use Rattle.circuit.specs.Circuit.{Configuration}
 use Rattle.circuit.specs.Evaluate.{Row, evaluate, mark, Evaluated, Satisfying}
-use Rattle.map.specs.Map.{gateCount, codeCount, codeGate, codeValue, circuit, inputCount}
-use Rattle.map.specs.declared.Counts.{Counts}
+use Rattle.map.specs.Map.{gateCount, circuit, inputCount}
 use Rattle.map.specs.Check.{firstFailed, mapTests, verdict, Test, MapNumber}
 use Rattle.state.specs.declared.Written.{Written}
 use Rattle.state.specs.declared.Written.the-variants.{Done}
@@ -47,18 +46,18 @@ configurationTests m s = (9, eqb (length s) (gateCount m)) ∷ (10, bitsTest s) 
 abbrev pub over : List ℕ → List ℕ → List ℕ
 over x w = x ++ drop (length x) w
 
--- Evaluate's answer, whether the call is accepted and else its number, and the output memory after the call
+-- What Evaluate does: whether the call is accepted and else its number, and the output memory after the call
 pub record EvaluateEffect : Type 0 where
   pub accepted : Bool
   pub number : ℕ
   pub out : List ℕ
 
--- document 01's number of each case of the answer, beside the memory
+-- document 01's number of each case of the answer that is returned, beside the memory
 unfoldable pub evaluateAnswer : Written → List ℕ → EvaluateEffect
 evaluateAnswer Done w = record { accepted = true; number = 0; out = w }
 evaluateAnswer (written-variants.Refused n) w = record { accepted = false; number = n; out = w }
 
--- what a call with this number leaves: "Evaluate takes a row and writes the value of every gate."; declined, it "leaves all lent memory untouched"
+-- what a call with this number leaves: "Evaluate takes a row and writes the value of every gate."; refused, it "leaves all lent memory untouched"
 unfoldable pub evaluateBy : ℕ → List ℕ → List ℕ → List ℕ → EvaluateEffect
 evaluateBy n m row out =
     cond (eqb n 0)
@@ -70,13 +69,13 @@ evaluateEffect m row out = evaluateBy (firstFailed (mapTests m ++ rowTests m row
 
 -- ---- Mark
 
--- Mark's answer: whether the call is accepted, else its number, and whether it says yes
+-- What Mark does: whether the call is accepted, else its number, and whether it says yes
 pub record MarkEffect : Type 0 where
   pub accepted : Bool
   pub number : ℕ
   pub yes : Bool
 
--- document 01's number and value of each case of the answer
+-- document 01's number and value of each case of the answer that is returned
 unfoldable pub markAnswer : Marked → MarkEffect
 markAnswer Yes = record { accepted = true; number = 0; yes = true }
 markAnswer No = record { accepted = true; number = 0; yes = false }
@@ -103,16 +102,24 @@ pub record EvaluateMeans (m row out after : List ℕ) : Type 0 where
 abbrev pub EvaluateDoes : Type 0
 EvaluateDoes = (m row out : List ℕ) → evaluateEffect m row out .accepted ≡ true → EvaluateMeans m row out (evaluateEffect m row out .out)
 
+-- "Such a configuration is a satisfying assignment.": one to which Mark says yes
+abbrev pub Satisfies : List ℕ → List ℕ → Type 0
+Satisfies m a = markEffect m a .yes ≡ true
+
 -- Mark says yes exactly to the satisfying assignments of accepted maps.
 abbrev pub MarkDoes : Type 0
-MarkDoes = (m s : List ℕ) → (markEffect m s .yes ≡ true) ↔ ((verdict m ≡ 0) × Satisfying (circuit m) s)
+MarkDoes = (m s : List ℕ) → Satisfies m s ↔ ((verdict m ≡ 0) × Satisfying (circuit m) s)
 
 -- ---- which calls are accepted
+
+-- number 14 lets this memory through
+abbrev pub HasRoom : List ℕ → List ℕ → Type 0
+HasRoom m out = gateCount m ≤ length out
 
 -- Evaluate is accepted exactly for accepted maps, rows, and memory that is long enough; Mark for accepted maps and configurations.
 abbrev pub EvaluateAccepts : Type 0
 EvaluateAccepts =
-    (m row out : List ℕ) → (evaluateEffect m row out .accepted ≡ true) ↔ ((verdict m ≡ 0) × (Row (circuit m) row × (gateCount m ≤ length out)))
+    (m row out : List ℕ) → (evaluateEffect m row out .accepted ≡ true) ↔ ((verdict m ≡ 0) × (Row (circuit m) row × HasRoom m out))
 
 abbrev pub MarkAccepts : Type 0
 MarkAccepts = (m s : List ℕ) → (markEffect m s .accepted ≡ true) ↔ ((verdict m ≡ 0) × Configuration (circuit m) s)
@@ -122,7 +129,7 @@ abbrev pub RowNumber : ℕ → List ℕ → List ℕ → List ℕ → Type 0
 RowNumber n m row out =
     Test n 9 (length row ≡ inputCount m) (
     Test n 10 (Bits row) (
-    Test n 14 (gateCount m ≤ length out) (n ≡ 0)))
+    Test n 14 (HasRoom m out) (n ≡ 0)))
 
 abbrev pub EvaluateNumber : Type 0
 EvaluateNumber = (m row out : List ℕ) → MapNumber (evaluateEffect m row out .number) m (RowNumber (evaluateEffect m row out .number) m row out)
@@ -135,7 +142,7 @@ ConfigurationNumber n m s Rest =
 abbrev pub MarkNumber : Type 0
 MarkNumber = (m s : List ℕ) → MapNumber (markEffect m s .number) m (ConfigurationNumber (markEffect m s .number) m s (markEffect m s .number ≡ 0))
 
--- Declined, they give a number, Evaluate "leaves all lent memory untouched", and Mark doesn't say yes.
+-- Refused, they give a number, Evaluate "leaves all lent memory untouched", and Mark doesn't say yes.
 pub record EvaluateRefused (out : List ℕ) (r : EvaluateEffect) : Type 0 where
   pub numbered : ¬ (r .number ≡ 0)
   pub untouched : r .out ≡ out
@@ -149,21 +156,3 @@ pub record MarkRefused (r : MarkEffect) : Type 0 where
 
 abbrev pub MarkRefuses : Type 0
 MarkRefuses = (m s : List ℕ) → markEffect m s .accepted ≡ false → MarkRefused (markEffect m s)
-
--- ---- for inner functions
-
--- a row that tests 9 and 10 let through, for a map with these counts
-pub record RowTested (n : Counts) (row : List ℕ) : Type 0 where
-  pub long : length row ≡ n .inputs
-  pub bits : Bits row
-
--- Evaluate and Mark behind the map's tests
-unfoldable pub evaluateOnMap : List ℕ → List ℕ → List ℕ → EvaluateEffect
-evaluateOnMap m row out = evaluateBy (firstFailed (rowTests m row out)) m row out
-
-unfoldable pub markOnMap : List ℕ → List ℕ → MarkEffect
-markOnMap m s = markBy (firstFailed (configurationTests m s)) m s
-
--- every coded gate has its code, record by record
-unfoldable pub shownByRecord : List ℕ → List ℕ → Bool
-shownByRecord m s = allBelow (codeCount m) (λ r. eqb (getD s (codeGate m r) 0) (codeValue m r))

@@ -8,7 +8,7 @@ ghost use lib.Dec.{eqb};
 ghost use Rattle.circuit.specs.Tools.{byte, upTo, select};
 ghost use Rattle.circuit.specs.Circuit.{on, given, justified};
 ghost use Rattle.map.specs.Map.{fanIn, childAt, circuit};
-ghost use Rattle.map.specs.Check.{Counted};
+ghost use Rattle.map.specs.Inner.{Counted};
 
 // 1 for the byte 1, else 0.
 fn one_bit(b: u8) -> usize

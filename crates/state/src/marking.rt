@@ -11,8 +11,9 @@ ghost use lib.Dec.{eqb};
 ghost use Rattle.folds.specs.Folds.{allBelow};
 ghost use Rattle.circuit.specs.Circuit.{justified};
 ghost use Rattle.map.specs.Map.{gateCount, codesAt, codeGate, codeValue, circuit};
-ghost use Rattle.map.specs.Check.{Counted};
-ghost use Rattle.state.specs.State.{markAnswer, markOnMap, shownByRecord};
+ghost use Rattle.map.specs.Inner.{Counted};
+ghost use Rattle.state.specs.State.{markAnswer};
+ghost use Rattle.state.specs.Inner.{markOnMap, shownByRecord};
 
 // Is every gate an input, or do its children give its value?
 fn gates_right(map: &[u8], counts: Counts, s: &[u8]) -> bool

@@ -13,8 +13,9 @@ ghost use Rattle.circuit.specs.Gate.{kindOf, isInput};
 ghost use Rattle.circuit.specs.Circuit.{on, given};
 ghost use Rattle.circuit.specs.Evaluate.{inputsBefore, evaluate};
 ghost use Rattle.map.specs.Map.{kindByte, circuit};
-ghost use Rattle.map.specs.Check.{Counted};
-ghost use Rattle.state.specs.State.{over, bitsTest, evaluateAnswer, evaluateOnMap, RowTested};
+ghost use Rattle.map.specs.Inner.{Counted};
+ghost use Rattle.state.specs.State.{over, bitsTest, evaluateAnswer};
+ghost use Rattle.state.specs.Inner.{evaluateOnMap, RowTested};
 
 // A value as a byte.
 pub fn bit(v: bool) -> u8

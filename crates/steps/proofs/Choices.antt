@@ -17,7 +17,7 @@ use Rattle.circuit.specs.Run.{downOptions, optionAt, greedyOptions, chosen}
 use Rattle.circuit.proofs.Lists.{map-at, map-append, length-upTo, in-upTo, select-same, select-images}
 use Rattle.circuit.proofs.Turns.{option-few}
 use Rattle.map.specs.Map.{gateCount, kindByte, fanIn, childAt, kidsOf, circuit}
-use Rattle.map.specs.Check.{IsMap}
+use Rattle.map.specs.Inner.{IsMap}
 use Rattle.map.proofs.Accepted.{well-formed}
 use Rattle.kinds.proofs.ByPlace.{options-by}
 use Rattle.state.proofs.Filling.{store}

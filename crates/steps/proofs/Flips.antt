@@ -18,7 +18,7 @@ use Rattle.circuit.proofs.Lists.{map-append, in-upTo, select-in, select-append,
 use Rattle.circuit.proofs.Turns.{turn-out}
 use Rattle.map.specs.Map.{gateCount, kindByte, fanIn, childAt}
 use Rattle.kinds.specs.Kinds.{optionTurns}
-use Rattle.map.specs.Check.{IsMap}
+use Rattle.map.specs.Inner.{IsMap}
 use Rattle.map.proofs.Accepted.{steps}
 use Rattle.steps.specs.Options.{optionHas, optionUpTo}
 

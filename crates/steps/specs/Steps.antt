@@ -8,7 +8,7 @@ use Rattle.circuit.specs.declared.Entry.{Entry}
 use Rattle.circuit.specs.Circuit.{Circuit, justified}
 use Rattle.circuit.specs.Run.{turn, move}
 use Rattle.map.specs.Map.{codeCount, circuit}
-use Rattle.map.specs.Check.{CodeMarks}
+use Rattle.map.specs.Inner.{CodeMarks}
 use Rattle.steps.specs.declared.MoveReport.{MoveReport}
 
 -- a mark for each coded gate

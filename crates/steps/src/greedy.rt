@@ -10,7 +10,7 @@ ghost use lib.ListN.{length, drop};
 ghost use Rattle.circuit.specs.declared.Choice.the-variants.{Greedy};
 ghost use Rattle.circuit.specs.Run.{chosen};
 ghost use Rattle.map.specs.Map.{circuit};
-ghost use Rattle.map.specs.Check.{Counted};
+ghost use Rattle.map.specs.Inner.{Counted};
 ghost use Rattle.steps.specs.Options.{optionGates, weightsOf, interestAfter};
 ghost use Rattle.steps.specs.Steps.{Space, Drawable, Flipped};
 

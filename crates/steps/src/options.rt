@@ -12,7 +12,7 @@ ghost use Rattle.circuit.specs.Gate.{kindOf};
 ghost use Rattle.circuit.specs.Circuit.{on};
 ghost use Rattle.circuit.specs.Run.{turn};
 ghost use Rattle.kinds.specs.Kinds.{optionTurns};
-ghost use Rattle.map.specs.Check.{Counted};
+ghost use Rattle.map.specs.Inner.{Counted};
 ghost use Rattle.steps.specs.Options.{optionsOf, optionGates};
 ghost use Rattle.steps.specs.Steps.{Flipped};
 

@@ -13,7 +13,7 @@ ghost use lib.ListN.{length};
 ghost use Rattle.circuit.specs.declared.Choice.the-variants.{Up};
 ghost use Rattle.circuit.specs.Run.{optionAt, chosen};
 ghost use Rattle.map.specs.Map.{circuit};
-ghost use Rattle.map.specs.Check.{Counted};
+ghost use Rattle.map.specs.Inner.{Counted};
 ghost use Rattle.marks.specs.Marks.{MarksOf};
 ghost use Rattle.steps.specs.Steps.{CodesMarked, Workspace, Drawable, Flipped, DidEntry};
 

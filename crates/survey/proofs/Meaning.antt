@@ -67,8 +67,7 @@ survey-does m s out e =
     let l : length (survey (circuit m) s) ≡ gateCount m = f .long in
     let long = over-long (survey (circuit m) s) out (gateCount m) l (leb-true (gateCount m) (length out) r) in
     rw (written m s out n) (record {
-      accepted = v;
-      start = start-of m s k;
+      start = record { accepted = v; keeps = start-of m s k };
       room = omega (arith, long, leb-true (gateCount m) (length out) r);
       bytes = λ g h. record {
         cone = _;
@@ -87,8 +86,8 @@ survey-does m s out e =
 
 pub survey-accepts : SurveyAccepts
 survey-accepts m s out = (
-  λ e. (let (v, t) = behind m (surveyTests m s out) (none m s out e) in let (k, r) = room m s out t in (v, (start-of m s k, leb-true (gateCount m) (length out) r))),
-  λ a. accepted m s out (behind-accepted m _ (a .0) ∙ of-room m s out (of-start m s (a .1 .0)) (le-leb (gateCount m) (length out) (a .1 .1))),
+  λ e. (let (v, t) = behind m (surveyTests m s out) (none m s out e) in let (k, r) = room m s out t in (record { accepted = v; keeps = start-of m s k }, leb-true (gateCount m) (length out) r)),
+  λ a. accepted m s out (behind-accepted m _ (a .0 .accepted) ∙ of-room m s out (of-start m s (a .0 .keeps)) (le-leb (gateCount m) (length out) (a .1))),
 )
 
 pub survey-number : SurveyNumber

@@ -12,10 +12,12 @@ use Rattle.circuit.specs.Circuit.{Configuration, on}
 use Rattle.circuit.specs.Evaluate.{showsCode, KeepsCodes}
 use Rattle.circuit.proofs.Evaluate.{shows-code}
 use Rattle.map.specs.Map.{gateCount, codeCount, codeGate, codeValue, circuit}
-use Rattle.map.specs.Check.{firstFailed, IsMap}
+use Rattle.map.specs.Check.{firstFailed}
+use Rattle.map.specs.Inner.{IsMap}
 use Rattle.map.proofs.Laws.{past, no-test, none-failed, passes-before, passed-before, Numbered}
 use Rattle.map.proofs.Described.{tested}
-use Rattle.state.specs.State.{configurationTests, shownByRecord}
+use Rattle.state.specs.State.{configurationTests}
+use Rattle.state.specs.Inner.{shownByRecord}
 use Rattle.state.proofs.Marks.{codes-by-record}
 use Rattle.state.proofs.Meaning.{configuration-of, of-configuration, configuration-number}
 use Rattle.survey.specs.Survey.{codesTest, startTests, StartNumber}

@@ -1,2 +1,3 @@
 pub mod Survey
+pub mod Inner
 pub mod Bench

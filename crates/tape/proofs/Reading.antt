@@ -9,7 +9,8 @@ use lib.ListN.{length}
 use lib.Dec.{leb}
 use Rattle.folds.proofs.Tests.{which}
 use Rattle.circuit.specs.declared.Entry.{Entry}
-use Rattle.tape.specs.Tape.{entryAt, stepAt}
+use Rattle.tape.specs.Tape.{entryAt}
+use Rattle.tape.specs.Inner.{stepAt}
 use Rattle.tape.specs.declared.Step.{Step}
 use Rattle.tape.specs.declared.Step.the-variants.{Next, End}
 

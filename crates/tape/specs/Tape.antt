@@ -1,7 +1,7 @@
 -- Document 01's tape, and the tests 12 and 13. Assumes nothing.
-use Prim.Native.Nat.{ℕ, zero, suc, _+_, _*_, _/_, _%_}
+use Prim.Native.Nat.{ℕ, zero, suc, _+_, _*_, _/_, _%_, _<_, _≤_}
 use mathlib.Core.Path.{_≡_}
-use mathlib.Core.Bool.{Bool, cond}
+use mathlib.Core.Bool.{Bool}
 use mathlib.Core.List.{List, [], _∷_}
 use lib.ListN.{length, getD}
 use lib.Dec.{eqb, leb}
@@ -10,8 +10,6 @@ use Rattle.circuit.specs.declared.Choice.{Choice}
 use Rattle.circuit.specs.declared.Choice.the-variants.{Greedy, Down, Up}
 use Rattle.circuit.specs.declared.Entry.{Entry}
 use Rattle.map.specs.Map.{u16At}
-use Rattle.tape.specs.declared.Step.{Step}
-use Rattle.tape.specs.declared.Step.the-variants.{Next, End}
 
 -- "kind (0 greedy, 1 down, 2 up), option". Kinds above 2 have no choice: test 13 excludes them, and the last clause stands for them.
 abbrev pub choiceOf : ℕ → ℕ → Choice
@@ -56,8 +54,12 @@ tapeTest t = eqb (length t % 4) 0 and leb (length t) mostTape
 unfoldable pub kindsTest : List ℕ → Bool
 kindsTest t = allBelow (length t / 4) (λ i. leb (getD t (4 * i + 2) 0) 2)
 
--- ---- for inner functions
+-- 12 and 13 as plain facts, and 13 of an entry
+abbrev pub LengthAllowed : List ℕ → Type 0
+LengthAllowed t = (length t % 4 ≡ 0) × (length t ≤ mostTape)
 
--- the entry at a place with the place four on, or the end where fewer than four bytes are left
-unfoldable pub stepAt : List ℕ → ℕ → Step
-stepAt t at = cond (leb (at + 4) (length t)) (Next (entryAt t at) (at + 4)) End
+abbrev pub KindAllowed : List ℕ → ℕ → Type 0
+KindAllowed t i = getD t (4 * i + 2) 0 ≤ 2
+
+abbrev pub EntriesAllowed : List ℕ → Type 0
+EntriesAllowed t = (i : ℕ) → 4 * i < length t → KindAllowed t i

@@ -5,7 +5,8 @@ use map::decode;
 ghost use mathlib.Core.Path.{_≡_};
 ghost use Prim.Native.Nat.{_+_, _≤_};
 ghost use lib.ListN.{length};
-ghost use Rattle.tape.specs.Tape.{choiceOf, entryAt, stepAt, tapeTest, kindsTest};
+ghost use Rattle.tape.specs.Tape.{choiceOf, entryAt, tapeTest, kindsTest};
+ghost use Rattle.tape.specs.Inner.{stepAt};
 
 // The longest tape, in bytes.
 pub const MOST_TAPE: usize = 65532;

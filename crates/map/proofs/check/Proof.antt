@@ -1,6 +1,7 @@
 use mathlib.Core.Path.{sym, _∙_}
 use borrow.Author.Tests.{eq-eqb, ne-eqb}
-use Rattle.map.specs.Check.{checkAnswer, checkEffect, countsOf}
+use Rattle.map.specs.Check.{checkAnswer, checkEffect}
+use Rattle.map.specs.Inner.{countsOf}
 use Rattle.map.proofs.Accepted.{facts}
 use borrow.Author.Needs.{needs}
 use Rattle.map.proofs.check.Statement.{statement}

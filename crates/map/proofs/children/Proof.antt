@@ -3,9 +3,10 @@ use Prim.Native.Nat.{_+_, _-_, _*_, _<_, _≤_}
 use mathlib.Core.Path.{_≡_, refl, sym, _∙_}
 use native.Mathlib.Omega.{arith}
 use Rattle.map.specs.Map.{gateCount, childCount, fanIn, firstChild}
-use Rattle.map.specs.Check.{verdict, IsMap}
+use Rattle.map.specs.Check.{verdict}
+use Rattle.map.specs.Inner.{IsMap}
 use Rattle.map.proofs.Accepted.{facts}
-use Rattle.map.proofs.Parts.{declined, past-end, has-gate, empty-part, whole-part}
+use Rattle.map.proofs.Parts.{no-map, past-end, has-gate, empty-part, whole-part}
 use borrow.Author.Needs.{needs}
 use Rattle.map.proofs.children.Statement.{statement}
 use Rattle.map.proofs.children.Tie as tie
@@ -45,7 +46,7 @@ returns : tie.Need-returns
 returns c =
     let t : tie.Then1 = search in
     let f : tie.After-failed = search in
-    empty-part _ _ _ refl refl (declined _ _ (λ e. t .if1 .taken (f .failed .ensures ∙ e)))
+    empty-part _ _ _ refl refl (no-map _ _ (λ e. t .if1 .taken (f .failed .ensures ∙ e)))
 
 read-contents-requires : tie.Need-read-contents-requires
 read-contents-requires c κs = omega (arith, right c .sound .placed .shaped)
@@ -75,12 +76,10 @@ returns-3 c =
     let p : tie.After-child-place = search in
     let n : tie.After-read-contents = search in
     let e : tie.Else2 = search in
-    let k = right (accepted e) .sound .placed .shaped in
     let a = p .child-place .result in
     whole-part _ _ _ a (a + 2 * f .fan-in .result - a) refl refl
     (omega (arith, n .read-contents .ensures))
     (omega arith)
-    (omega (arith, n .read-contents .ensures, k, within e))
     (has-gate _ _ (none (accepted e)) (there e))
 
 pub children-spec : {M : Type 1} → statement M

@@ -1,7 +1,8 @@
 use denote.Ref.{now}
 use mathlib.Core.Path.{_∙_}
 use Rattle.map.proofs.Answers.{WasAccepted, accepted-by, map-refused-by, behind-accepted}
-use Rattle.state.specs.State.{evaluateEffect, evaluateOnMap}
+use Rattle.state.specs.State.{evaluateEffect}
+use Rattle.state.specs.Inner.{evaluateOnMap}
 use Rattle.state.proofs.Answers.{refused-by}
 use borrow.Author.Needs.{needs}
 use Rattle.state.proofs.evaluate.Statement.{statement}

@@ -1,7 +1,8 @@
 use denote.Ref.{now}
 use mathlib.Core.Path.{_∙_}
 use Rattle.map.proofs.Answers.{WasAccepted, accepted-by, map-refused-by, behind-accepted}
-use Rattle.state.specs.State.{markEffect, markOnMap}
+use Rattle.state.specs.State.{markEffect}
+use Rattle.state.specs.Inner.{markOnMap}
 use Rattle.state.proofs.Answers.{mark-refused}
 use borrow.Author.Needs.{needs}
 use Rattle.state.proofs.mark.Statement.{statement}

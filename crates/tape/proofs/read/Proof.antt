@@ -38,7 +38,7 @@ use denote.Triple.Table.{entered, cited}
 use denote.Triple.Walked.{says, Stays, stay-none, stay-none-slice, walkOf, goes-none, goes-none-slice, Walks, ends-at, walked, walk-meets}
 use denote.Exit.{yes}
 use denote.Triple.Clauses.{ensured, lasts}
-use Rattle.tape.specs.Tape.{stepAt}
+use Rattle.tape.specs.Inner.{stepAt}
 use Rattle.tape.specs.declared.Tape.{Tape}
 use Rattle.tape.specs.declared.Step.{Step}
 use Rattle.tape.proofs.Tape as T

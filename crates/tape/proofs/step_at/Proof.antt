@@ -3,7 +3,7 @@ use native.Mathlib.Omega.{arith}
 use Prim.Native.Nat.{_+_}
 use lib.ListN.{length}
 use borrow.Author.Tests.{le-leb, lt-leb}
-use Rattle.tape.specs.Tape.{stepAt}
+use Rattle.tape.specs.Inner.{stepAt}
 use borrow.Author.Needs.{needs}
 use Rattle.tape.proofs.step_at.Statement.{statement}
 use Rattle.tape.proofs.step_at.Tie as tie

@@ -1,4 +1,4 @@
-use Rattle.map.specs.Check.{countsOf}
+use Rattle.map.specs.Inner.{countsOf}
 use borrow.Author.Needs.{needs}
 use Rattle.map.proofs.decode.counts.Statement.{statement}
 use Rattle.map.proofs.decode.counts.Tie as tie

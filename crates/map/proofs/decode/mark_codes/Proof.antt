@@ -4,7 +4,7 @@ use mathlib.Core.Path.{_≡_, refl}
 use native.Mathlib.Omega.{arith}
 use lib.ListN.{length, length-set}
 use Rattle.map.specs.Map.{codeCount}
-use Rattle.map.specs.Check.{CodeMarks}
+use Rattle.map.specs.Inner.{CodeMarks}
 use Rattle.map.proofs.Laws.{marks-more}
 use borrow.Author.Needs.{needs}
 use Rattle.map.proofs.decode.mark_codes.Statement.{statement}

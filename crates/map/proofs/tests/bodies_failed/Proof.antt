@@ -5,7 +5,8 @@ use native.Mathlib.Omega.{arith}
 use Rattle.folds.specs.Folds.{allBelow}
 use Rattle.folds.proofs.Tests.{flag-false, flag-true}
 use Rattle.map.specs.Map.{gateCount, codeCount, codesAt}
-use Rattle.map.specs.Check.{kindTest, positionsTest, childrenTest, codeTest, firstFailed, bodiesTests, Placed}
+use Rattle.map.specs.Check.{kindTest, positionsTest, childrenTest, codeTest, firstFailed, bodiesTests}
+use Rattle.map.specs.Inner.{Placed}
 use Rattle.map.proofs.Laws.{placed-of, sound-of}
 use borrow.Author.Needs.{needs}
 use Rattle.map.proofs.tests.bodies_failed.Statement.{statement}

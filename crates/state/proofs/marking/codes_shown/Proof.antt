@@ -8,7 +8,7 @@ use Rattle.folds.specs.Folds.{allBelow}
 use Rattle.folds.proofs.Tests.{flag-false, flag-true}
 use Rattle.folds.proofs.Loops.{loops-of, all-more, all-fails}
 use Rattle.map.specs.Map.{codeGate, codeValue}
-use Rattle.state.specs.State.{shownByRecord}
+use Rattle.state.specs.Inner.{shownByRecord}
 use borrow.Author.Needs.{needs}
 use Rattle.state.proofs.marking.codes_shown.Statement.{statement}
 use Rattle.state.proofs.marking.codes_shown.Tie as tie

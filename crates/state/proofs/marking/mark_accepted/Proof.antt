@@ -8,7 +8,8 @@ use borrow.Author.Tests.{eq-eqb, ne-eqb}
 use Rattle.folds.proofs.Tests.{flag-false, flag-true, and-both, and-first-false, and-second-false}
 use Rattle.map.specs.Check.{firstFailed}
 use Rattle.map.proofs.Laws.{past, stop, no-test}
-use Rattle.state.specs.State.{bitsTest, configurationTests, markOnMap}
+use Rattle.state.specs.State.{bitsTest, configurationTests}
+use Rattle.state.specs.Inner.{markOnMap}
 use Rattle.state.proofs.Filling.{bits-of}
 use Rattle.state.proofs.Marks.{mark-tests}
 use Rattle.state.proofs.Answers.{mark-refused, mark-yes, mark-no}

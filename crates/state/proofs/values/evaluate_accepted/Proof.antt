@@ -9,7 +9,8 @@ use Rattle.folds.proofs.Tests.{flag-false, flag-true}
 use Rattle.map.specs.Map.{gateCount}
 use Rattle.map.specs.Check.{firstFailed}
 use Rattle.map.proofs.Laws.{past, stop, no-test}
-use Rattle.state.specs.State.{rowTests, evaluateOnMap, bitsTest}
+use Rattle.state.specs.State.{rowTests, bitsTest}
+use Rattle.state.specs.Inner.{evaluateOnMap}
 use Rattle.state.proofs.Filling.{bits-of}
 use Rattle.state.proofs.Answers.{refused-by, done-by}
 use borrow.Author.Needs.{needs}
