@@ -1,8 +1,16 @@
 # Sourced by the scripts: what they need is put on the PATH, or named where it is missing.
 
-# Rattle's command, rt.
+# Rattle's command, rt: of the folder that RATTLE names and no other; where it isn't set, of the PATH, or of /opt/rattle.
 need_rattle() {
-    command -v rt >/dev/null 2>&1 || PATH="$PATH:${RATTLE:-/opt/rattle}/bin"
+    if [ -n "${RATTLE:-}" ]; then
+        if [ ! -x "$RATTLE/bin/rt" ]; then
+            echo "RATTLE names $RATTLE, and there is no bin/rt in it: name the folder of Rattle's kit" >&2
+            exit 2
+        fi
+        PATH="$(cd "$RATTLE" && pwd)/bin:$PATH"
+    elif ! command -v rt >/dev/null 2>&1; then
+        PATH="$PATH:/opt/rattle/bin"
+    fi
     if ! command -v rt >/dev/null 2>&1; then
         echo "Rattle's toolchain is missing: unpack the kit to /opt/rattle, or name its folder in RATTLE" >&2
         exit 2

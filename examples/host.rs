@@ -1,16 +1,17 @@
 //! A host in Rust: the README's full adder through every call. Prints what the calls give.
 
-use peeriewick::{check, children, evaluate, make_move, mark, run, survey, Refused, Ending};
+use peeriewick::kind::{AND, INPUT, OR, XOR};
+use peeriewick::{check, children, entry, evaluate, make_move, mark, run, survey, Ending, Refused};
 
 const MAP: [u8; 68] = [
     12, 0, 8, 0, 44, 0, 10, 0, 64, 0, 1, 0, // contents
-    0, 0, 0, 0, 0, 0, 0, 0, 0, 0, 0, 0, // three inputs
-    4, 2, 0, 0, 2, 2, 2, 0, 2, 2, 4, 0, 4, 2, 6, 0, 3, 2, 8, 0, // XOR, AND, AND, XOR, OR
+    INPUT, 0, 0, 0, INPUT, 0, 0, 0, INPUT, 0, 0, 0, // gates: kind, fan-in, first child position
+    XOR, 2, 0, 0, AND, 2, 2, 0, AND, 2, 4, 0, XOR, 2, 6, 0, OR, 2, 8, 0, // the other five
     0, 0, 1, 0, 0, 0, 1, 0, 2, 0, 3, 0, 2, 0, 3, 0, 4, 0, 5, 0, // children
     7, 0, 1, 0, // gate 7 is to be 1
 ];
 const START: [u8; 8] = [0, 0, 1, 1, 0, 1, 0, 1];
-const TAPE: [u8; 4] = [0, 0, 1, 0]; // draw 0, down, option 0
+const TAPE: [u8; 4] = [0, 0, entry::DOWN, 0]; // draw 0, down, option 0
 
 fn main() -> Result<(), Refused> {
     let counts = check(&MAP)?;

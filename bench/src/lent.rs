@@ -51,7 +51,7 @@ pub struct Lent {
 }
 
 impl Lent {
-    /// Makes a call and returns the number that declines it, or 0.
+    /// Makes a call and returns the number that it is refused with, or 0.
     pub fn call(&mut self, engine: &Engine, call: Call) -> u8 {
         let map = self.map.get();
         let out = self.out.get_mut();

@@ -17,7 +17,7 @@ fn verify_input(input: &Input) -> Result<(), String> {
         for call in CALLS {
             let (declined, after) = compare(&lent, call)?;
             if declined != 0 {
-                return Err(format!("{:?} declines it with {}", call, declined));
+                return Err(format!("{:?} refuses it with {}", call, declined));
             }
             if call == Call::Run && after.numbers.get()[..2] != [0, input.entries(tape)] {
                 return Err(format!("the {:?} tape is not done to its end", tape));

@@ -11,6 +11,31 @@ pub mod raw;
 
 use std::fmt;
 
+/// The kinds of gate: the first byte of a gate's record in a map.
+pub mod kind {
+    pub const INPUT: u8 = 0;
+    pub const NOT: u8 = 1;
+    pub const AND: u8 = 2;
+    pub const OR: u8 = 3;
+    pub const XOR: u8 = 4;
+}
+
+/// The kinds of a tape entry: its third byte.
+#[cfg(feature = "search")]
+pub mod entry {
+    pub const GREEDY: u8 = 0;
+    pub const DOWN: u8 = 1;
+    pub const UP: u8 = 2;
+}
+
+/// What a survey says of a gate: its byte is the sum of those that hold.
+#[cfg(feature = "survey")]
+pub mod bit {
+    pub const CONE: u8 = 1;
+    pub const FRONT: u8 = 2;
+    pub const INTEREST: u8 = 4;
+}
+
 /// The number of the first test that fails, as document 01 lists them.
 #[derive(Clone, Copy, PartialEq, Eq, Hash)]
 pub struct Refused(pub u8);
@@ -71,7 +96,7 @@ pub struct Counts {
     pub codes: usize,
 }
 
-/// Checks a map. Declines with 1 to 8.
+/// Checks a map. Refused with 1 to 8.
 pub fn check(map: &[u8]) -> Result<Counts, Refused> {
     let mut n = [0usize; 4];
     let number = unsafe { raw::peeriewick_check(map.as_ptr(), map.len(), n.as_mut_ptr(), n.len()) };
@@ -80,7 +105,7 @@ pub fn check(map: &[u8]) -> Result<Counts, Refused> {
 }
 
 /// The part of the map that holds the children of a gate, two bytes each: no copy. Empty for an input, a gate past the end or a map that [`check`]
-/// declines.
+/// refuses.
 pub fn children(map: &[u8], gate: usize) -> &[u8] {
     let mut n = [0usize; 2];
     unsafe { raw::peeriewick_children(map.as_ptr(), map.len(), gate, n.as_mut_ptr(), n.len()) };
@@ -88,7 +113,7 @@ pub fn children(map: &[u8], gate: usize) -> &[u8] {
     &map[at..at + length]
 }
 
-/// Writes the value of every gate into `out`, for a row of one byte 0 or 1 per input, by gate number. Declines with 1 to 10 and 14.
+/// Writes the value of every gate into `out`, for a row of one byte 0 or 1 per input, by gate number. Refused with 1 to 10 and 14.
 pub fn evaluate(map: &[u8], row: &[u8], out: &mut [u8]) -> Result<(), Refused> {
     let number = unsafe {
         raw::peeriewick_evaluate(map.as_ptr(), map.len(), row.as_ptr(), row.len(), out.as_mut_ptr(), out.len())
@@ -96,7 +121,7 @@ pub fn evaluate(map: &[u8], row: &[u8], out: &mut [u8]) -> Result<(), Refused> {
     result(number, ())
 }
 
-/// Does the configuration obey every gate and show every code? Declines with 1 to 10.
+/// Does the configuration obey every gate and show every code? Refused with 1 to 10.
 pub fn mark(map: &[u8], configuration: &[u8]) -> Result<bool, Refused> {
     let mut n = [0usize; 1];
     let number = unsafe {
@@ -120,7 +145,7 @@ pub struct Sizes {
     pub interest: usize,
 }
 
-/// Writes a byte per gate into `out`: 1 in the cone, plus 2 in the front, plus 4 interesting. Declines with 1 to 11 and 14.
+/// Writes a byte per gate into `out`: 1 in the cone, plus 2 in the front, plus 4 interesting ([`bit`]). Refused with 1 to 11 and 14.
 #[cfg(feature = "survey")]
 pub fn survey(map: &[u8], configuration: &[u8], out: &mut [u8]) -> Result<Sizes, Refused> {
     let mut n = [0usize; 2];
@@ -148,7 +173,7 @@ pub struct Turn {
     pub turned: usize,
 }
 
-/// Does one tape entry of 4 bytes on the configuration, and writes the survey of the new one into `work`. Declines with 1 to 15. (`move` is a reserved
+/// Does one tape entry of 4 bytes on the configuration, and writes the survey of the new one into `work`. Refused with 1 to 15. (`move` is a reserved
 /// word.)
 #[cfg(feature = "search")]
 pub fn make_move(map: &[u8], configuration: &mut [u8], entry: &[u8], work: &mut [u8]) -> Result<Turn, Refused> {
@@ -171,7 +196,7 @@ pub fn make_move(map: &[u8], configuration: &mut [u8], entry: &[u8], work: &mut 
     result(number, Turn { gate, turned })
 }
 
-/// How a run that is not declined ends.
+/// How a run that is not refused ends.
 #[cfg(feature = "search")]
 #[derive(Debug, Clone, Copy, PartialEq, Eq, Hash)]
 pub enum Ending {
@@ -191,7 +216,7 @@ pub struct Outcome {
 }
 
 /// Does the tape's entries until the front is empty or the tape is used up. The configuration is then the last one, `work` has its survey, and
-/// `answer` is written for [`Ending::Found`] alone. Declines with 1 to 14.
+/// `answer` is written for [`Ending::Found`] alone. Refused with 1 to 14.
 #[cfg(feature = "search")]
 pub fn run(
     map: &[u8],

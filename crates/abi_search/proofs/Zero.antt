@@ -5,16 +5,16 @@ use Rattle.map.specs.Check.{firstFailed, mapTests}
 use Rattle.search.specs.Move.{moveTests, MoveEffect, moveBy, moveEffect}
 use Rattle.map.specs.Map.{circuit}
 use Rattle.tape.specs.Tape.{entries}
-use Rattle.search.specs.Run.{runTests, RunEffect, runBy, runEffect}
+use Rattle.search.specs.Run.{runTests, RunEffect, runAnswer, runEnded, runBy, runEffect}
 use Rattle.circuit.specs.Run.{EndingValues}
 use Rattle.search.proofs.Endings.{run-ends}
 use Rattle.abi_state.proofs.Zero.{zero-of}
 use Rattle.abi_search.specs.Numbers.{ZeroIsAccepted}
 
 pub zero-is-accepted : ZeroIsAccepted
-unfolding moveEffect moveBy runEffect runBy
+unfolding moveEffect moveBy runEffect runBy runEnded runAnswer
 zero-is-accepted = record {
   move-zero = λ m s entry work. zero-of (λ (r : MoveEffect). r .accepted) (λ r. r .number) (firstFailed (mapTests m ++ moveTests m s entry work)) _ _ refl refl refl refl;
   run-zero = λ m s tape work ans. let e = run-ends (circuit m) s (entries tape) in
-      zero-of (λ (r : RunEffect). r .told .accepted) (λ r. r .told .number) (firstFailed (mapTests m ++ runTests m s tape work ans)) _ _ (ap (λ (t : EndingValues). t .accepted) e) (ap (λ (t : EndingValues). t .number) e) refl refl;
+      zero-of (λ (r : RunEffect). r .accepted) (λ r. r .number) (firstFailed (mapTests m ++ runTests m s tape work ans)) _ _ (ap (λ (t : EndingValues). t .accepted) e) (ap (λ (t : EndingValues). t .number) e) refl refl;
 }

@@ -3,9 +3,11 @@ use abi_state::place;
 use circuit::Ending;
 use search::Moved;
 ghost use mathlib.Core.Path.{_≡_};
+ghost use mathlib.Core.List.{[], _∷_};
 ghost use Rattle.search.specs.Move.{moveEffect};
 ghost use Rattle.search.specs.Run.{runEffect};
-ghost use Rattle.abi_search.specs.Numbers.{moveNumbers, runNumbers};
+ghost use Rattle.abi_state.specs.Numbers.{hostAnswer};
+ghost use Rattle.abi_search.specs.Numbers.{moveForHost, runForHost};
 
 // Move. Numbers: the drawn gate, how many values it turned.
 #[no_mangle]
@@ -16,10 +18,9 @@ pub extern "C" fn peeriewick_move(
     work: &mut [u8],
     numbers: &mut [usize],
 ) -> u8
-    ensures { λ r. ⌜ r ≡ moveEffect (now (map .entry)) (now (configuration .entry)) (now (entry .entry)) (now (work .entry)) .number ⌝ }
-    ensures { λ _. ⌜ now (configuration .exit) ≡ moveEffect (now (map .entry)) (now (configuration .entry)) (now (entry .entry)) (now (work .entry)) .configuration ⌝ }
-    ensures { λ _. ⌜ now (work .exit) ≡ moveEffect (now (map .entry)) (now (configuration .entry)) (now (entry .entry)) (now (work .entry)) .work ⌝ }
-    ensures { λ _. ⌜ now (numbers .exit) ≡ moveNumbers (moveEffect (now (map .entry)) (now (configuration .entry)) (now (entry .entry)) (now (work .entry))) (now (numbers .entry)) ⌝ }
+    ensures { λ r. ⌜ hostAnswer r (now (configuration .exit) ∷ now (work .exit) ∷ []) (now (numbers .exit))
+        ≡ moveForHost (moveEffect (now (map .entry)) (now (configuration .entry)) (now (entry .entry)) (now (work .entry)))
+        (now (numbers .entry)) ⌝ }
 {
     match search::make_move(map, configuration, entry, work) {
         Moved::Refused(k) => k,
@@ -37,11 +38,9 @@ pub extern "C" fn peeriewick_run(
     answer: &mut [u8],
     numbers: &mut [usize],
 ) -> u8
-    ensures { λ r. ⌜ r ≡ runEffect (now (map .entry)) (now (configuration .entry)) (now (tape .entry)) (now (work .entry)) (now (answer .entry)) .told .number ⌝ }
-    ensures { λ _. ⌜ now (configuration .exit) ≡ runEffect (now (map .entry)) (now (configuration .entry)) (now (tape .entry)) (now (work .entry)) (now (answer .entry)) .configuration ⌝ }
-    ensures { λ _. ⌜ now (work .exit) ≡ runEffect (now (map .entry)) (now (configuration .entry)) (now (tape .entry)) (now (work .entry)) (now (answer .entry)) .work ⌝ }
-    ensures { λ _. ⌜ now (answer .exit) ≡ runEffect (now (map .entry)) (now (configuration .entry)) (now (tape .entry)) (now (work .entry)) (now (answer .entry)) .answer ⌝ }
-    ensures { λ _. ⌜ now (numbers .exit) ≡ runNumbers (runEffect (now (map .entry)) (now (configuration .entry)) (now (tape .entry)) (now (work .entry)) (now (answer .entry))) (now (numbers .entry)) ⌝ }
+    ensures { λ r. ⌜ hostAnswer r (now (configuration .exit) ∷ now (work .exit) ∷ now (answer .exit) ∷ []) (now (numbers .exit))
+        ≡ runForHost (runEffect (now (map .entry)) (now (configuration .entry)) (now (tape .entry)) (now (work .entry)) (now (answer .entry)))
+        (now (numbers .entry)) ⌝ }
 {
     let outcome = search::run(map, configuration, tape, work, answer);
     let ending = outcome.ending;

@@ -1,5 +1,5 @@
--- Document 01's calls for hosts in C and Rust. What they return and leave is said by the same definitions as the calls' own; here stands only where the
--- numbers of an answer go. Assumes nothing.
+-- Document 01's calls for hosts in C and Rust. What they return and leave is said by the same definitions as the calls' own; here stands only where a host finds it.
+-- Assumes nothing.
 use Prim.Native.Nat.{ℕ, _<_, _≤_}
 use mathlib.Core.Path.{_≡_}
 use mathlib.Core.Logic.{_↔_}
@@ -9,7 +9,7 @@ use lib.ListN.{length, getD}
 use Rattle.circuit.specs.Tools.{byte}
 use Rattle.map.specs.Check.{CheckEffect, checkEffect}
 use Rattle.map.specs.Children.{stretchAt, stretchLength}
-use Rattle.state.specs.State.{evaluateEffect, MarkEffect, markEffect}
+use Rattle.state.specs.State.{EvaluateEffect, evaluateEffect, MarkEffect, markEffect}
 
 -- the numbers xs in the first places of the lent memory ns, as many as it has
 unfoldable pub placed : List ℕ → List ℕ → List ℕ
@@ -17,21 +17,34 @@ placed [] ns = ns
 placed (x ∷ xs) [] = []
 placed (x ∷ xs) (n ∷ ns) = x ∷ placed xs ns
 
--- the memory for the numbers of an answer after a call: an accepted call's stand there, "untouched" by a declined one
+-- the memory for the numbers of an answer after a call: an accepted call's stand there, "untouched" by a refused one
 abbrev pub numbered : Bool → List ℕ → List ℕ → List ℕ
 numbered accepted xs ns = cond accepted (placed xs ns) ns
 
--- "Check returns counts of gates, inputs, children and codes."
-abbrev pub checkNumbers : CheckEffect → List ℕ → List ℕ
-checkNumbers r = numbered (r .accepted) (r .gates ∷ r .inputs ∷ r .children ∷ r .codes ∷ [])
+-- What a host sees of a call: the number that is returned, the memories that it lent to be written, in the order of the parameters, and the memory for numbers
+pub record HostEffect : Type 0 where
+  pub returned : ℕ
+  pub memories : List (List ℕ)
+  pub numbers : List ℕ
 
--- Children: where in map m the stretch of gate g begins, and its length
+abbrev pub hostAnswer : ℕ → List (List ℕ) → List ℕ → HostEffect
+hostAnswer r ms ns = record { returned = r; memories = ms; numbers = ns }
+
+-- "Check returns counts of gates, inputs, children and codes."
+abbrev pub checkForHost : CheckEffect → List ℕ → HostEffect
+checkForHost r ns = hostAnswer (r .number) [] (numbered (r .accepted) (r .gates ∷ r .inputs ∷ r .children ∷ r .codes ∷ []) ns)
+
+-- Children gives no number: where in map m the stretch of gate g begins, and its length
 abbrev pub childrenNumbers : List ℕ → ℕ → List ℕ → List ℕ
 childrenNumbers m g = placed (stretchAt m g ∷ stretchLength m g ∷ [])
 
+-- Evaluate has no other numbers.
+abbrev pub evaluateForHost : EvaluateEffect → HostEffect
+evaluateForHost r = hostAnswer (r .number) (r .out ∷ []) []
+
 -- Mark: 1 for yes, 0 for no
-abbrev pub markNumbers : MarkEffect → List ℕ → List ℕ
-markNumbers r = numbered (r .accepted) (byte (r .yes) ∷ [])
+abbrev pub markForHost : MarkEffect → List ℕ → HostEffect
+markForHost r ns = hostAnswer (r .number) [] (numbered (r .accepted) (byte (r .yes) ∷ []) ns)
 
 -- What `placed` leaves: as many places as before, the numbers in the first of them in their order, and the other places as they were.
 pub record Places (xs ns : List ℕ) : Type 0 where

@@ -1,5 +1,5 @@
-// Check, Children, Evaluate and Mark for hosts in C and Rust, on byte slices and numbers. Each but children returns the number that declines the call, or 0. The other numbers of
-// its answer go into `numbers`, as many as there are places; a declined call leaves it as it was, like all lent memory.
+// Check, Children, Evaluate and Mark for hosts in C and Rust, on byte slices and numbers. Each but children returns the number that it is refused with, or 0. The other numbers of
+// its answer go into `numbers`, as many as there are places; a refused call leaves it as it was, like all lent memory.
 pub mod place;
 mod stretch;
 
@@ -7,15 +7,15 @@ use map::Checked;
 use state::Marked;
 use state::Written;
 ghost use mathlib.Core.Path.{_≡_};
+ghost use mathlib.Core.List.{[], _∷_};
 ghost use Rattle.map.specs.Check.{checkEffect};
 ghost use Rattle.state.specs.State.{evaluateEffect, markEffect};
-ghost use Rattle.abi_state.specs.Numbers.{checkNumbers, childrenNumbers, markNumbers};
+ghost use Rattle.abi_state.specs.Numbers.{hostAnswer, checkForHost, childrenNumbers, evaluateForHost, markForHost};
 
 // Check. Numbers: gates, inputs, children, codes.
 #[no_mangle]
 pub extern "C" fn peeriewick_check(map: &[u8], numbers: &mut [usize]) -> u8
-    ensures { λ r. ⌜ r ≡ checkEffect (now (map .entry)) .number ⌝ }
-    ensures { λ _. ⌜ now (numbers .exit) ≡ checkNumbers (checkEffect (now (map .entry))) (now (numbers .entry)) ⌝ }
+    ensures { λ r. ⌜ hostAnswer r [] (now (numbers .exit)) ≡ checkForHost (checkEffect (now (map .entry))) (now (numbers .entry)) ⌝ }
 {
     match map::check(map) {
         Checked::Refused(k) => k,
@@ -35,8 +35,8 @@ pub extern "C" fn peeriewick_children(map: &[u8], gate: usize, numbers: &mut [us
 // Evaluate.
 #[no_mangle]
 pub extern "C" fn peeriewick_evaluate(map: &[u8], row: &[u8], out: &mut [u8]) -> u8
-    ensures { λ r. ⌜ r ≡ evaluateEffect (now (map .entry)) (now (row .entry)) (now (out .entry)) .number ⌝ }
-    ensures { λ _. ⌜ now (out .exit) ≡ evaluateEffect (now (map .entry)) (now (row .entry)) (now (out .entry)) .out ⌝ }
+    ensures { λ r. ⌜ hostAnswer r (now (out .exit) ∷ []) []
+        ≡ evaluateForHost (evaluateEffect (now (map .entry)) (now (row .entry)) (now (out .entry))) ⌝ }
 {
     match state::evaluate(map, row, out) {
         Written::Refused(k) => k,
@@ -47,8 +47,8 @@ pub extern "C" fn peeriewick_evaluate(map: &[u8], row: &[u8], out: &mut [u8]) ->
 // Mark. Numbers: 1 for yes, 0 for no.
 #[no_mangle]
 pub extern "C" fn peeriewick_mark(map: &[u8], configuration: &[u8], numbers: &mut [usize]) -> u8
-    ensures { λ r. ⌜ r ≡ markEffect (now (map .entry)) (now (configuration .entry)) .number ⌝ }
-    ensures { λ _. ⌜ now (numbers .exit) ≡ markNumbers (markEffect (now (map .entry)) (now (configuration .entry))) (now (numbers .entry)) ⌝ }
+    ensures { λ r. ⌜ hostAnswer r [] (now (numbers .exit))
+        ≡ markForHost (markEffect (now (map .entry)) (now (configuration .entry))) (now (numbers .entry)) ⌝ }
 {
     match state::mark(map, configuration) {
         Marked::Refused(k) => k,

@@ -1,15 +1,15 @@
--- Where a host gets the numbers of Survey's answer. Assumes nothing.
+-- What a host sees of Survey. Assumes nothing.
 use Prim.Native.Nat.{ℕ}
 use mathlib.Core.Path.{_≡_}
 use mathlib.Core.Logic.{_↔_}
 use mathlib.Core.Bool.{true}
 use mathlib.Core.List.{List, [], _∷_}
-use Rattle.abi_state.specs.Numbers.{numbered}
+use Rattle.abi_state.specs.Numbers.{numbered, HostEffect, hostAnswer}
 use Rattle.survey.specs.Survey.{SurveyEffect, surveyEffect}
 
 -- "returns the sizes of front and interest set"
-abbrev pub surveyNumbers : SurveyEffect → List ℕ → List ℕ
-surveyNumbers r = numbered (r .accepted) (r .front ∷ r .interest ∷ [])
+abbrev pub surveyForHost : SurveyEffect → List ℕ → HostEffect
+surveyForHost r ns = hostAnswer (r .number) (r .out ∷ []) (numbered (r .accepted) (r .front ∷ r .interest ∷ []) ns)
 
 -- it returns 0 exactly where it is accepted
 abbrev pub SurveyZero : Type 0

@@ -2,8 +2,10 @@
 use abi_state::place;
 use survey::Surveyed;
 ghost use mathlib.Core.Path.{_≡_};
+ghost use mathlib.Core.List.{[], _∷_};
 ghost use Rattle.survey.specs.Survey.{surveyEffect};
-ghost use Rattle.abi_survey.specs.Numbers.{surveyNumbers};
+ghost use Rattle.abi_state.specs.Numbers.{hostAnswer};
+ghost use Rattle.abi_survey.specs.Numbers.{surveyForHost};
 
 // Survey. Numbers: front, interest.
 #[no_mangle]
@@ -13,9 +15,8 @@ pub extern "C" fn peeriewick_survey(
     out: &mut [u8],
     numbers: &mut [usize],
 ) -> u8
-    ensures { λ r. ⌜ r ≡ surveyEffect (now (map .entry)) (now (configuration .entry)) (now (out .entry)) .number ⌝ }
-    ensures { λ _. ⌜ now (out .exit) ≡ surveyEffect (now (map .entry)) (now (configuration .entry)) (now (out .entry)) .out ⌝ }
-    ensures { λ _. ⌜ now (numbers .exit) ≡ surveyNumbers (surveyEffect (now (map .entry)) (now (configuration .entry)) (now (out .entry))) (now (numbers .entry)) ⌝ }
+    ensures { λ r. ⌜ hostAnswer r (now (out .exit) ∷ []) (now (numbers .exit))
+        ≡ surveyForHost (surveyEffect (now (map .entry)) (now (configuration .entry)) (now (out .entry))) (now (numbers .entry)) ⌝ }
 {
     match survey::survey(map, configuration, out) {
         Surveyed::Refused(k) => k,

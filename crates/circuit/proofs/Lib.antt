@@ -7,7 +7,6 @@ pub mod Shapes
 pub mod Gate
 pub mod Spread
 pub mod Evaluate
-pub mod Checks
 pub mod Cone
 pub mod Turns
 pub mod Source001

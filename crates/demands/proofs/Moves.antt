@@ -82,17 +82,17 @@ module _ (m s entry work : List ℕ) where
       let e = early-none m s entry work t in
       let p = move-passed m s entry work e in
       let t15 = none-failed 14 _ _ (sym (early-passes m s entry work e) ∙ t) .0 in
-      record { accepted = v; start = p .keeps; four-bytes = p .four; kind = kind-of (p .four) (p .kinds); room = p .room; some-front = front-of m s (facts m v) t15 }
+      record { start = record { accepted = v; keeps = p .keeps }; four-bytes = p .four; kind = kind-of (p .four) (p .kinds); room = p .room; some-front = front-of m s (facts m v) t15 }
 
   of-movable : Movable m s entry work → number ≡ 0
   unfolding moveTests entryTests frontTest
   of-movable a =
-      behind-accepted m _ (a .accepted)
-      ∙ behind-start m s _ (of-start m s (a .start))
+      behind-accepted m _ (a .start .accepted)
+      ∙ behind-start m s _ (of-start m s (a .start .keeps))
       ∙ past _ _ _ (eq-eqb _ _ (a .four-bytes))
       ∙ past _ _ _ (of-kind (a .four-bytes) (a .kind))
       ∙ past _ _ _ (le-leb _ _ (a .room))
-      ∙ past _ _ _ (of-front m s (facts m (a .accepted)) (a .some-front))
+      ∙ past _ _ _ (of-front m s (facts m (a .start .accepted)) (a .some-front))
       ∙ no-test
 
   written : number ≡ 0 → moveEffect m s entry work ≡ record {
@@ -110,11 +110,11 @@ pub move-does : MoveDoes
 move-does m s entry work e =
     let n = none m s entry work e in
     let a = movable m s entry work n in
-    let ok = well-formed m (facts m (a .accepted)) in
-    let d = entry-done (circuit m) ok s (a .start) (not-true _ (of-front m s (facts m (a .accepted)) (a .some-front))) (entryAt entry 0) in
+    let k = facts m (a .start .accepted) in
+    let ok = well-formed m k in
+    let d = entry-done (circuit m) ok s (a .start .keeps) (not-true _ (of-front m s k (a .some-front))) (entryAt entry 0) in
     let l : length (survey (circuit m) (move (circuit m) s (entryAt entry 0) .next)) ≡ gateCount m = survey-is (circuit m) ok (move (circuit m) s (entryAt entry 0) .next) .long in
     rw (written m s entry work n) (record {
-      accepted = a .accepted;
       start = a .start;
       read = entry-read entry 0 (a .kind);
       does = d;

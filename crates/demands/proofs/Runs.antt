@@ -1,4 +1,4 @@
--- Which calls Run accepts, what a declined one gives, and how far a run may go. Assumes nothing.
+-- Which calls Run accepts, what a refused one gives, and how far a run may go. Assumes nothing.
 use Prim.Native.Nat.{ℕ, _*_, _%_, _≤_}
 use mathlib.Core.Path.{_≡_, refl, sym, ap, _∙_}
 use mathlib.Core.Bool.{Bool, true, false≢true, true≢false}
@@ -14,10 +14,8 @@ use Rattle.circuit.specs.declared.Entry.{Entry}
 use Rattle.circuit.specs.Tools.{upTo, isEmpty}
 use Rattle.circuit.specs.Circuit.{Circuit, WellFormed}
 use Rattle.circuit.specs.Evaluate.{KeepsCodes}
-use Rattle.circuit.specs.declared.Ending.{Ending}
-use Rattle.circuit.specs.declared.Ending.the-variants.{Found}
 use Rattle.circuit.specs.Survey.{inFront, front, frontSize}
-use Rattle.circuit.specs.Run.{move, run, EndingValues, told}
+use Rattle.circuit.specs.Run.{move, run, EndingValues}
 use Rattle.circuit.proofs.Lists.{select-length, length-upTo}
 use Rattle.circuit.proofs.Moves.{entry-done}
 use Rattle.circuit.proofs.Trace.{run-found, run-spent, run-step}
@@ -29,17 +27,17 @@ use Rattle.map.proofs.Answers.{behind-accepted}
 use Rattle.map.proofs.Described.{tested, map-number}
 use Rattle.state.proofs.Meaning.{behind}
 use Rattle.survey.proofs.Starts.{behind-start, of-start, start-number}
-use Rattle.tape.specs.Tape.{mostTape, entries, tapeTest}
-use Rattle.search.specs.Run.{tapeTests, runTests, runEnded, runBy, runEffect, Room, Runnable, RunAccepts, RunNumber, RunRefuses}
+use Rattle.tape.specs.Tape.{mostTape, entries, tapeTest, LengthAllowed}
+use Rattle.search.specs.Run.{tapeTests, runTests, runAnswer, runEnded, runOnTape, runBy, runEffect, Room, Runnable, RunAccepts, RunNumber, RunRefuses}
 use Rattle.search.proofs.Passed.{room-of, run-passed}
 use Rattle.search.proofs.Endings.{run-ends}
 use Rattle.demands.proofs.Tapes.{kinds-of, of-kinds}
 
 -- test 12
-length-of : (tape : List ℕ) → eqb (length tape % 4) 0 and leb (length tape) mostTape ≡ true → (length tape % 4 ≡ 0) × (length tape ≤ mostTape)
+length-of : (tape : List ℕ) → eqb (length tape % 4) 0 and leb (length tape) mostTape ≡ true → LengthAllowed tape
 length-of tape e = (eqb-true _ _ (and-left _ _ e), leb-true _ _ (and-right _ _ e))
 
-of-length : (tape : List ℕ) → (length tape % 4 ≡ 0) × (length tape ≤ mostTape) → eqb (length tape % 4) 0 and leb (length tape) mostTape ≡ true
+of-length : (tape : List ℕ) → LengthAllowed tape → eqb (length tape % 4) 0 and leb (length tape) mostTape ≡ true
 of-length tape p = and-both _ _ (eq-eqb _ _ (p .0)) (le-leb _ _ (p .1))
 
 -- test 14
@@ -54,32 +52,33 @@ module _ (m s tape work ans : List ℕ) where
   abbrev number : ℕ
   number = firstFailed (mapTests m ++ runTests m s tape work ans)
 
-  pub written : number ≡ 0 → runEffect m s tape work ans ≡ runEnded (circuit m) (run (circuit m) s (entries tape)) work ans
+  pub written : number ≡ 0 → runEffect m s tape work ans ≡ runOnTape m s tape work ans
   unfolding runEffect runBy
   written e = rw (eq-eqb number 0 e)
 
-  pub none : runEffect m s tape work ans .told .accepted ≡ true → number ≡ 0
-  unfolding runEffect runBy
+  pub none : runEffect m s tape work ans .accepted ≡ true → number ≡ 0
+  unfolding runEffect runBy runAnswer
   none e = elim (which (eqb number 0)) [
     | inl q ↦ eqb-true number 0 q
     | inr q ↦ absurd (false≢true (rw q at e))
   ]
 
-  pub found-accepted : runEffect m s tape work ans .outcome .ending ≡ Found → runEffect m s tape work ans .told .accepted ≡ true
-  unfolding runEffect runBy
+  pub found-accepted : runEffect m s tape work ans .found ≡ true → runEffect m s tape work ans .accepted ≡ true
+  unfolding runEffect runBy runEnded runAnswer
   found-accepted f = elim (which (eqb number 0)) [
     | inl q ↦ rw q (ap (λ (t : EndingValues). t .accepted) (run-ends (circuit m) s (entries tape)))
-    | inr q ↦ absurd (false≢true (ap (λ (e : Ending). told e .accepted) (rw q at f)))
+    | inr q ↦ absurd (false≢true (rw q at f))
   ]
 
-  number-is : runEffect m s tape work ans .told .number ≡ number
-  unfolding runEffect runBy
+  number-is : runEffect m s tape work ans .number ≡ number
+  unfolding runEffect runBy runEnded runAnswer
   number-is = elim (which (eqb number 0)) [
     | inl q ↦ rw q (ap (λ (t : EndingValues). t .number) (run-ends (circuit m) s (entries tape)) ∙ sym (eqb-true number 0 q))
     | inr q ↦ rw q refl
   ]
 
-  accepted : number ≡ 0 → runEffect m s tape work ans .told .accepted ≡ true
+  accepted : number ≡ 0 → runEffect m s tape work ans .accepted ≡ true
+  unfolding runEnded runAnswer
   accepted e = rw (written e) (ap (λ (t : EndingValues). t .accepted) (run-ends (circuit m) s (entries tape)))
 
   -- what each test says
@@ -89,15 +88,20 @@ module _ (m s tape work ans : List ℕ) where
       let (v, t) = behind m (runTests m s tape work ans) n in
       let p = run-passed m s tape work ans t in
       let (whole, few) = length-of tape (p .begins .tape-passes) in
-      record { accepted = v; start = p .begins .keeps; whole-entries = whole; not-longer = few; kinds = kinds-of tape whole (p .kinds); room = p .room }
+      record {
+        start = record { accepted = v; keeps = p .begins .keeps };
+        tape-length = (whole, few);
+        kinds = kinds-of tape whole (p .kinds);
+        room = p .room;
+      }
 
   pub of-runnable : Runnable m s tape work ans → number ≡ 0
   unfolding runTests tapeTests tapeTest
   of-runnable a =
-      behind-accepted m _ (a .accepted)
-      ∙ behind-start m s _ (of-start m s (a .start))
-      ∙ past _ _ _ (of-length tape (a .whole-entries, a .not-longer))
-      ∙ past _ _ _ (of-kinds tape (a .whole-entries) (a .kinds))
+      behind-accepted m _ (a .start .accepted)
+      ∙ behind-start m s _ (of-start m s (a .start .keeps))
+      ∙ past _ _ _ (of-length tape (a .tape-length))
+      ∙ past _ _ _ (of-kinds tape (a .tape-length .0) (a .kinds))
       ∙ past _ _ _ (of-room m work ans (a .room))
       ∙ no-test
 
@@ -110,7 +114,7 @@ run-accepts m s tape work ans = (
 pub run-number : RunNumber
 unfolding runTests tapeTests tapeTest
 run-number m s tape work ans =
-    let n = runEffect m s tape work ans .told .number in
+    let n = runEffect m s tape work ans .number in
     map-number m _ n _ (number-is m s tape work ans) λ v e.
     start-number m s _ n _ (facts m v) e λ e11.
     tested 12 _ _ n _ _ e11 (length-of tape) (of-length tape) λ q12 e12.
@@ -119,10 +123,10 @@ run-number m s tape work ans =
     e14 ∙ no-test
 
 pub run-refuses : RunRefuses
-unfolding runEffect runBy
+unfolding runEffect runBy runAnswer
 run-refuses m s tape work ans e = elim (which (eqb (number m s tape work ans) 0)) [
   | inl q ↦ absurd (true≢false (sym (accepted m s tape work ans (eqb-true (number m s tape work ans) 0 q)) ∙ e))
-  | inr q ↦ rw q (record { ending = refl; numbered = eqb-false (number m s tape work ans) 0 q; zeros = (refl, (refl, refl)); untouched = (refl, (refl, refl)) })
+  | inr q ↦ rw q (record { numbered = eqb-false (number m s tape work ans) 0 q; not-found = refl; zeros = (refl, (refl, refl)); untouched = (refl, (refl, refl)) })
 ]
 
 -- ---- how far a run may go

@@ -1,12 +1,39 @@
--- Document 01's examples P1 to P12 and the further ones of Run, computed. Assumes nothing.
+-- Document 01's examples P1 to P12, computed. Assumes nothing.
+use Prim.Native.Nat.{ℕ}
 use mathlib.Core.Path.{refl}
-use Rattle.circuit.specs.Bench.{clash, uncoded, corner}
-use Rattle.search.proofs.Bench.{opened}
-use Rattle.demands.specs.Table.{P1ToP12}
-use Rattle.demands.specs.Table as table
+use Rattle.folds.specs.Folds.{_and_, _or_, allBelow, descend}
+use Rattle.circuit.specs.Circuit.{justified}
+use Rattle.circuit.specs.Evaluate.{inputsBefore, rowOf, values, mark}
+use Rattle.circuit.specs.Survey.{spread, reasons, cone, inFront, front, interest, survey, frontSize, interestSize}
+use Rattle.circuit.specs.Run.{drawn, downOptions, optionAt, greedyOptions, chosen, entryTurns, run, answer}
+use Rattle.circuit.specs.Bench.{adder, clash, uncoded, corner}
+use Rattle.kinds.specs.Kinds.{kindFits}
+use Rattle.map.specs.Map.{u16At, fanInsBefore, codeAmong, kidsOf}
+use Rattle.map.specs.Check.{offsetsTest, kindTest, positionTest, positionsTest, childTest, childrenTest, codeTest, freeTest, firstFailed, contentsTests, bodiesTests, mapTests}
+use Rattle.state.specs.State.{bitsTest, configurationTests, markBy, markEffect}
+use Rattle.survey.specs.Survey.{codesTest, startTests, surveyTests, surveyBy, surveyEffect}
+use Rattle.tape.specs.Tape.{entryAt, entriesFrom, entries, tapeTest, kindsTest}
+use Rattle.search.specs.Move.{frontTest, entryTests, moveTests, moveBy, moveEffect}
+use Rattle.search.specs.Run.{tapeTests, runTests, runAnswer, runEnded, runBy, runEffect}
+use Rattle.line.specs.Text.{decimalIn}
+use Rattle.line.specs.Line.{inputTest, lent, lineOf}
+use Rattle.demands.specs.Table.{adderBytes, clashBytes, uncodedBytes, cornerBytes, P1ToP12}
+
+-- the definitions that the examples compute with, under one name for each part
+on-circuits : ℕ
+unfolding _and_ _or_ allBelow descend justified inputsBefore rowOf values mark spread reasons cone inFront front interest survey frontSize interestSize drawn downOptions optionAt greedyOptions chosen entryTurns run answer adder clash uncoded corner
+on-circuits = 0
+
+on-maps : ℕ
+unfolding kindFits u16At fanInsBefore codeAmong kidsOf offsetsTest kindTest positionTest positionsTest childTest childrenTest codeTest freeTest firstFailed contentsTests bodiesTests mapTests adderBytes clashBytes uncodedBytes cornerBytes
+on-maps = 0
+
+in-calls : ℕ
+unfolding bitsTest configurationTests markBy markEffect codesTest startTests surveyTests surveyBy surveyEffect entryAt entriesFrom entries tapeTest kindsTest frontTest entryTests moveTests moveBy moveEffect tapeTests runTests runAnswer runEnded runBy runEffect decimalIn inputTest lent lineOf
+in-calls = 0
 
 pub p1-to-p12 : P1ToP12
-unfolding opened clash uncoded corner
+unfolding on-circuits on-maps in-calls
 p1-to-p12 = record {
   adder-is = record { gates = refl; kinds = refl; kids = refl; codes = refl };
   adder-bytes = refl;
@@ -15,6 +42,9 @@ p1-to-p12 = record {
   B-is = refl;
   P2 = refl;
   P3 = refl;
+  P3-bytes = refl;
+  P3-line = refl;
+  P3-word = refl;
   P3-row = refl;
   P4 = refl;
   P4-option = refl;
@@ -36,18 +66,4 @@ p1-to-p12 = record {
   P11 = refl;
   P11-row = refl;
   P12 = refl;
-}
-
-pub run-examples : table.Examples
-unfolding opened
-run-examples = record {
-  at-once = refl;
-  in-the-midst = refl;
-  map-first = refl;
-  code-first = refl;
-  length-first = refl;
-  kind-first = refl;
-  never-reached = refl;
-  short-work = refl;
-  short-answer = refl;
 }

@@ -17,7 +17,8 @@ use Rattle.circuit.specs.declared.Entry.{Entry}
 use Rattle.circuit.specs.Promise.{NotGreedy, optionByte}
 use Rattle.map.specs.Map.{u16At}
 use Rattle.tape.specs.Tape.{choiceOf, entryAt, ChoiceRead, EntryRead, entriesFrom, entries, kindsTest}
-use Rattle.demands.specs.Demands.{AreBytes, AreDraws, Way, Plain, tapeOf}
+use Rattle.line.specs.Text.{AreBytes}
+use Rattle.demands.specs.Demands.{AreDraws, Way, Plain, tapeOf}
 
 -- ---- reading
 

@@ -1,33 +1,29 @@
 -- Document 00's demands, on bytes: about the definitions that the calls' contracts cite. Demands 2 and 3 speak of `runEffect`, Run's. Assumes nothing.
 use Prim.Native.Nat.{ℕ, _*_, _/_, _%_, _≤_, _<_}
 use mathlib.Core.Path.{_≡_}
-use mathlib.Core.Bool.{true}
+use mathlib.Core.Bool.{true, false}
 use mathlib.Core.List.{List, [], _∷_, map, List·Memᴰ as In}
 use lib.ListN.{length, getD, take, drop}
-use Rattle.circuit.specs.declared.Ending.the-variants.{Found}
 use Rattle.circuit.specs.declared.Entry.{Entry}
-use Rattle.circuit.specs.Evaluate.{Row, rowOf, evaluate, KeepsCodes, differ}
+use Rattle.circuit.specs.Evaluate.{Row, rowOf, evaluate, differ}
 use Rattle.circuit.specs.Tools.{isEmpty}
 use Rattle.circuit.specs.Survey.{front, survey, frontSize}
 use Rattle.circuit.specs.Source001.{DifferIs}
 use Rattle.circuit.specs.Promise.{FoundAnswer, config, Promised, Demand2OnCircuits}
 use Rattle.map.specs.Map.{mostGates, gateCount, codeCount, codeGate, codeValue, circuit}
-use Rattle.map.specs.Check.{verdict, MapAccepts, CheckNumber, CheckAccepts, CheckRefuses, CheckDoes, AcceptedMaps}
+use Rattle.map.specs.Check.{MapAccepts, CheckNumber, CheckAccepts, CheckRefuses, CheckDoes, AcceptedMaps}
 use Rattle.map.specs.Children.{ChildrenDoes}
-use Rattle.state.specs.State.{markEffect, EvaluateDoes, EvaluateAccepts, EvaluateNumber, EvaluateRefuses, MarkDoes, MarkAccepts, MarkNumber, MarkRefuses}
-use Rattle.survey.specs.Survey.{SurveyDoes, SurveyAccepts, SurveyNumber, SurveyRefuses}
+use Rattle.state.specs.State.{Satisfies, EvaluateDoes, EvaluateAccepts, EvaluateNumber, EvaluateRefuses, MarkDoes, MarkAccepts, MarkNumber, MarkRefuses}
+use Rattle.survey.specs.Survey.{IsStart, SurveyDoes, SurveyAccepts, SurveyNumber, SurveyRefuses}
 use Rattle.tape.specs.Tape.{mostEntries, EntryRead, entries}
 use Rattle.search.specs.Move.{MoveDoes, MoveAccepts, MoveNumber, MoveRefuses}
-use Rattle.search.specs.Run.{RunEffect, runEffect, Room, RunAccepts, RunNumber, RunRefuses}
-
--- "Such a configuration is a satisfying assignment.": one to which Mark says yes
-abbrev pub Satisfies : List ℕ → List ℕ → Type 0
-Satisfies m a = markEffect m a .yes ≡ true
+use Rattle.search.specs.Run.{RunEffect, endingOf, runEffect, Room, RunAccepts, RunNumber, RunRefuses}
+use Rattle.line.specs.Text.{AreBytes}
 
 -- ---- demand 1
 
 -- "A refused call gives the number that document 01 names and leaves all lent bytes untouched; an accepted one leaves what document 01 states."
--- Of each call its number, by document 01's conditions in their order; which inputs it accepts; what a declined call gives and leaves beside the
+-- Of each call its number, by document 01's conditions in their order; which inputs it accepts; what a refused call gives and leaves beside the
 -- number; and what an accepted one does. What Survey, Move and Run do is in demand 2. (The demand's first sentence, on the ends of memory and the
 -- end of calls, Rattle asks of every function.)
 pub record Demand1 : Type 0 where
@@ -72,31 +68,49 @@ pub record FoundWrites (m last ans after : List ℕ) : Type 0 where
 --     entry-is              in that order, with the draws, kinds and options of their bytes
 --     promised              the record and the last configuration are those of document 01's run: `Promised` says what that is, with the configurations
 --                           `config .. 0`, the start, `config .. 1`, after the first entry, and so on
---     told                  an accepted call's number is 0, it found where the last configuration has no front, and its front is that one's: 0 for Found, and
+--     ending                an accepted call's number is 0, it found where the last configuration has no front, and its front is that one's: 0 for Found, and
 --                           "Spent also carries the front's size"
 --     bounds                how large these numbers may become
 --     surveyed              "the first bytes of the work memory, one per gate, are its survey"; the surplus stands
 --     found, not-found      what the answer memory holds
 pub record RunMeans (m s tape work ans : List ℕ) (r : RunEffect) : Type 0 where
-  pub accepted : verdict m ≡ 0
-  pub start : KeepsCodes (circuit m) s
+  pub start : IsStart m s
   pub entries-are : length tape ≡ 4 * length (entries tape)
   pub entry-is : (d : Entry) (i : ℕ) → 4 * i < length tape → EntryRead tape (4 * i) (getD (entries tape) i d)
-  pub promised : Promised (circuit m) s (entries tape) (config (circuit m) s (entries tape)) (record { outcome = r .outcome; last = r .configuration })
-  pub told : r .told ≡ record { accepted = true; found = isEmpty (front (circuit m) (r .configuration)); number = 0; front = frontSize (circuit m) (r .configuration) }
-  pub bounds : (r .outcome .moves ≤ mostEntries) × ((r .outcome .flips ≤ 8 * r .outcome .moves) × (r .told .front ≤ mostGates))
+  pub promised : Promised (circuit m) s (entries tape) (config (circuit m) s (entries tape)) (endingOf r) (r .moves) (r .flips) (r .configuration)
+  pub ending : endingOf r
+      ≡ record { accepted = true; number = 0; found = isEmpty (front (circuit m) (r .configuration)); front = frontSize (circuit m) (r .configuration) }
+  pub bounds : (r .moves ≤ mostEntries) × ((r .flips ≤ 8 * r .moves) × (r .front ≤ mostGates))
   pub surveyed : take (gateCount m) (r .work) ≡ survey (circuit m) (r .configuration)
   pub work-surplus : drop (gateCount m) (r .work) ≡ drop (gateCount m) work
   pub work-long : length (r .work) ≡ length work
-  pub found : r .outcome .ending ≡ Found → FoundWrites m (r .configuration) ans (r .answer)
-  pub not-found : ¬ (r .outcome .ending ≡ Found) → r .answer ≡ ans
+  pub found : r .found ≡ true → FoundWrites m (r .configuration) ans (r .answer)
+  pub not-found : r .found ≡ false → r .answer ≡ ans
+
+abbrev pub RunDoes : Type 0
+RunDoes = (m s tape work ans : List ℕ) → runEffect m s tape work ans .accepted ≡ true → RunMeans m s tape work ans (runEffect m s tape work ans)
+
+-- "Work and answer memory may hold any bytes and have any length that number 14 lets through: ending, moves and flips are the same for all of them.",
+-- and so are the configuration that is left, the survey of an accepted call and the answer of Found.
+pub record SameRun (m : List ℕ) (r r' : RunEffect) : Type 0 where
+  pub ending : endingOf r ≡ endingOf r'
+  pub moves : r .moves ≡ r' .moves
+  pub flips : r .flips ≡ r' .flips
+  pub configuration : r .configuration ≡ r' .configuration
+  pub surveyed : r .accepted ≡ true → take (gateCount m) (r .work) ≡ take (gateCount m) (r' .work)
+  pub answered : r .found ≡ true → take (gateCount m) (r .answer) ≡ take (gateCount m) (r' .answer)
+
+abbrev pub SameForAllMemories : Type 0
+SameForAllMemories =
+    (m s tape work ans work' ans' : List ℕ) → Room m work ans → Room m work' ans' → SameRun m (runEffect m s tape work ans) (runEffect m s tape work' ans')
 
 -- "Cone, front and interest set are those of source document 001, save two differences that document 01 marks. A run makes the moves of document 01,
 -- reports as moves and flips the count of entries done and the sum of values they turned, and ends Found exactly when its front becomes empty within the
 -- tape; the state it then gives obeys every gate and shows every code."
 --     maps, notions    the circuit of an accepted map is well formed, so what `Demand2OnCircuits` says holds of it
 --     survey-.., ..    which calls are accepted, and what these do
-pub record Demand2 : Type 0 where
+--     memories         whatever bytes work and answer memory hold
+pub record Demand2 : Type 1 where
   pub maps : AcceptedMaps
   pub notions : Demand2OnCircuits
   pub survey-accepts : SurveyAccepts
@@ -104,25 +118,10 @@ pub record Demand2 : Type 0 where
   pub move-accepts : MoveAccepts
   pub moves : MoveDoes
   pub run-accepts : RunAccepts
-  pub runs : (m s tape work ans : List ℕ) → runEffect m s tape work ans .told .accepted ≡ true
-      → RunMeans m s tape work ans (runEffect m s tape work ans)
-
--- "Work and answer memory may hold any bytes and have any length that number 14 lets through: ending, moves and flips are the same for all of them.",
--- and so are the configuration that is left, the survey of an accepted call and the answer of Found.
-pub record SameRun (m : List ℕ) (r r' : RunEffect) : Type 0 where
-  pub outcome : r .outcome ≡ r' .outcome
-  pub configuration : r .configuration ≡ r' .configuration
-  pub surveyed : r .told .accepted ≡ true → take (gateCount m) (r .work) ≡ take (gateCount m) (r' .work)
-  pub answered : r .outcome .ending ≡ Found → take (gateCount m) (r .answer) ≡ take (gateCount m) (r' .answer)
-
-abbrev pub SameForAllMemories : Type 0
-SameForAllMemories =
-    (m s tape work ans work' ans' : List ℕ) → Room m work ans → Room m work' ans' → SameRun m (runEffect m s tape work ans) (runEffect m s tape work' ans')
+  pub runs : RunDoes
+  pub memories : SameForAllMemories
 
 -- ---- demand 3
-
-abbrev pub AreBytes : List ℕ → Type 0
-AreBytes bs = (b : ℕ) → In b bs → b < 256
 
 -- "A list of front draws is a list of u16."
 abbrev pub AreDraws : List ℕ → Type 0
@@ -146,10 +145,9 @@ tapeOf (d ∷ ds) (w ∷ ws) = d % 256 ∷ d / 256 ∷ w .kind ∷ w .option ∷
 
 -- a run "ends Found and reports at most that number of moves and at most that number of flips"
 pub record FoundWithin (n : ℕ) (r : RunEffect) : Type 0 where
-  pub found : r .outcome .ending ≡ Found
-  pub told : r .told .found ≡ true
-  pub moves : r .outcome .moves ≤ n
-  pub flips : r .outcome .flips ≤ n
+  pub found : r .found ≡ true
+  pub moves : r .moves ≤ n
+  pub flips : r .flips ≤ n
 
 -- "kind and option bytes exist, no kind among them greedy, with which document 01's run on exactly those draws ends Found ..": the same bytes for all
 -- memories. What Run reads on the tape are those draws.
@@ -166,9 +164,9 @@ pub record Finishing (m s ds : List ℕ) (n : ℕ) : Type 0 where
 --     bounded            "For every such start and every satisfying assignment of all gates, count the gates where the two differ. For every list of
 --                        front draws of that length, .."
 pub record Demand3From (m s : List ℕ) : Type 0 where
-  pub only : (tape work ans : List ℕ) → runEffect m s tape work ans .outcome .ending ≡ Found → (a : List ℕ) × Satisfies m a
+  pub only : (tape work ans : List ℕ) → runEffect m s tape work ans .found ≡ true → (a : List ℕ) × Satisfies m a
   pub some-tape : (a : List ℕ) → Satisfies m a
-      → (tape : List ℕ) × AreBytes tape × ((work ans : List ℕ) → Room m work ans → runEffect m s tape work ans .outcome .ending ≡ Found)
+      → (tape : List ℕ) × AreBytes tape × ((work ans : List ℕ) → Room m work ans → runEffect m s tape work ans .found ≡ true)
   pub bounded : (a : List ℕ) → Satisfies m a → (ds : List ℕ) → AreDraws ds → length ds ≡ differ (circuit m) s a
       → Finishing m s ds (differ (circuit m) s a)
 
@@ -179,4 +177,4 @@ pub record Demand3 : Type 0 where
   pub circuits : AcceptedMaps
   pub satisfying : MarkDoes
   pub counted : DifferIs
-  pub from : (m s : List ℕ) → verdict m ≡ 0 → KeepsCodes (circuit m) s → Demand3From m s
+  pub from : (m s : List ℕ) → IsStart m s → Demand3From m s

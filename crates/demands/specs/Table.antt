@@ -1,44 +1,103 @@
--- Document 01's examples P1 to P12 as one table, on bytes, about the definitions that the contracts cite, with more examples of Run on which wrong
--- programs show. antt computes them. Assumes nothing.
+-- Document 01's examples P1 to P12 as one table, on bytes, about the definitions that the contracts cite. antt computes them. Assumes nothing.
 use Prim.Native.Nat.{ℕ}
 use mathlib.Core.Path.{_≡_}
 use mathlib.Core.Bool.{true, false}
-use mathlib.Core.List.{List, [], _∷_, _++_}
+use mathlib.Core.List.{List, [], _∷_, _++_, map}
 use lib.ListN.{length, take}
 use Rattle.circuit.specs.declared.Ending.{Ending}
 use Rattle.circuit.specs.declared.Ending.the-variants.{Found, Spent}
+use Rattle.circuit.specs.Tools.{upTo}
+use Rattle.circuit.specs.Circuit.{Circuit}
 use Rattle.circuit.specs.Evaluate.{rowOf}
 use Rattle.circuit.specs.Survey.{interestSize}
 use Rattle.circuit.specs.Run.{turn}
 use Rattle.circuit.specs.Promise.{config}
 use Rattle.circuit.specs.Bench.{adder, A, B, C, clash, uncoded, corner}
 use Rattle.map.specs.Map.{circuit}
-use Rattle.map.specs.Bench.{four, adderBytes, withByte, Same}
 use Rattle.state.specs.State.{markEffect}
-use Rattle.state.specs.Bench.{memory}
-use Rattle.survey.specs.Survey.{surveyEffect}
-use Rattle.survey.specs.Bench.{clashBytes, uncodedBytes, surveyed}
-use Rattle.search.specs.Move.{moveEffect}
+use Rattle.survey.specs.Survey.{SurveyEffect, surveyEffect}
+use Rattle.search.specs.Move.{MoveEffect, moveEffect}
 use Rattle.tape.specs.Tape.{entries}
-use Rattle.search.specs.Run.{RunEffect, runAnswer, refusedOutcome, runEffect}
-use Rattle.search.specs.Bench.{cornerBytes, greedy, down, up, moved}
+use Rattle.search.specs.Run.{RunEffect, runAnswer, runEffect}
+use Rattle.line.specs.Text.{foundWord}
+use Rattle.line.specs.Line.{inputOf, lineOf}
+
+-- ---- the maps
+
+abbrev pub four : ℕ → ℕ → ℕ → ℕ → List ℕ → List ℕ
+four a b c d bs = a ∷ b ∷ c ∷ d ∷ bs
+
+-- "Adder map (001, figure 1): gates 0, 1, 2 inputs; 3 XOR(0,1); 4 AND(0,1); 5 AND(2,3); 6 XOR(2,3); 7 OR(4,5); code 7 = 1; 68 bytes": contents, gates,
+-- children, code
+unfoldable pub adderBytes : List ℕ
+adderBytes =
+    four 12 0 8 0 (four 44 0 10 0 (four 64 0 1 0 (
+    four 0 0 0 0 (four 0 0 0 0 (four 0 0 0 0 (four 4 2 0 0 (four 2 2 2 0 (four 2 2 4 0 (four 4 2 6 0 (four 3 2 8 0 (
+    four 0 0 1 0 (four 0 0 1 0 (four 2 0 3 0 (four 2 0 3 0 (four 4 0 5 0 (
+    four 7 0 1 0 []))))))))))))))))
+
+-- P9's map: "0 input, 1 NOT(0), 2 AND(0,1), code 2 = 1"
+unfoldable pub clashBytes : List ℕ
+clashBytes =
+    four 12 0 3 0 (four 24 0 3 0 (four 30 0 1 0 (
+    four 0 0 0 0 (four 1 1 0 0 (four 2 2 1 0 (
+    four 0 0 0 0 (1 ∷ 0 ∷ (
+    four 2 0 1 0 []))))))))
+
+-- P10's map: "one input, no code"
+unfoldable pub uncodedBytes : List ℕ
+uncodedBytes = four 12 0 1 0 (four 16 0 0 0 (four 16 0 0 0 (four 0 0 0 0 [])))
+
+-- P11's map: "0, 1 inputs, 2 NOT(0), 3 AND(0,2), 4 OR(1,3), code 4 = 1"
+unfoldable pub cornerBytes : List ℕ
+cornerBytes =
+    four 12 0 5 0 (four 32 0 5 0 (four 42 0 1 0 (
+    four 0 0 0 0 (four 0 0 0 0 (four 1 1 0 0 (four 2 2 1 0 (four 3 2 3 0 (
+    four 0 0 0 0 (four 2 0 1 0 (3 ∷ 0 ∷ (
+    four 4 0 1 0 [])))))))))))
+
+-- two circuits of n gates that are the same, gate by gate
+pub record Same (n : ℕ) (c d : Circuit) : Type 0 where
+  pub gates : c .gates ≡ d .gates
+  pub kinds : map (c .kind) (upTo n) ≡ map (d .kind) (upTo n)
+  pub kids : map (c .kids) (upTo n) ≡ map (d .kids) (upTo n)
+  pub codes : map (c .code) (upTo n) ≡ map (d .code) (upTo n)
+
+-- ---- entries and memories
+
+-- entries with draw 0: greedy, down and up with an option
+abbrev pub greedy : ℕ → List ℕ
+greedy i = four 0 0 0 i []
+
+abbrev pub down : ℕ → List ℕ
+down i = four 0 0 1 i []
+
+abbrev pub up : ℕ → List ℕ
+up i = four 0 0 2 i []
 
 -- work and answer memory for the adder map, for three gates and for five, all 170
 abbrev pub memory8 : List ℕ
-memory8 = take 8 memory
+memory8 = four 170 170 170 170 (four 170 170 170 170 [])
 
 abbrev pub memory3 : List ℕ
-memory3 = take 3 memory
+memory3 = take 3 memory8
 
 abbrev pub memory5 : List ℕ
-memory5 = take 5 memory
+memory5 = take 5 memory8
+
+-- ---- answers
+
+-- a survey with these sizes and bytes
+abbrev pub surveyed : ℕ → ℕ → List ℕ → SurveyEffect
+surveyed f i w = record { accepted = true; number = 0; front = f; interest = i; out = w }
+
+-- a move that drew g and turned n values, with the two memories
+abbrev pub moved : ℕ → ℕ → List ℕ → List ℕ → MoveEffect
+moved g n s w = record { accepted = true; number = 0; gate = g; turned = n; configuration = s; work = w }
 
 -- the whole outcome of a run: ending, moves and flips, and the configuration, work memory and answer memory after it
 abbrev pub reported : Ending → ℕ → ℕ → List ℕ → List ℕ → List ℕ → RunEffect
 reported e moves flips s work ans = runAnswer (record { ending = e; moves = moves; flips = flips }) s work ans
-
-abbrev pub refused : ℕ → List ℕ → List ℕ → List ℕ → RunEffect
-refused n s work ans = runAnswer (refusedOutcome n) s work ans
 
 -- "Row is the answer's input values in gate order"
 abbrev pub rowAfter : List ℕ → RunEffect → List ℕ
@@ -58,6 +117,10 @@ pub record P1ToP12 : Type 0 where
   -- "P3 A, down 0: Found, 1 move, 1 flip, row 1 0 1."
   pub P3 : runEffect adderBytes A (down 0) memory8 memory8
       ≡ reported Found 1 1 (four 1 0 1 1 (four 0 1 0 1 [])) (four 1 1 1 1 (four 0 1 0 1 [])) (four 1 0 1 1 (four 0 1 0 1 []))
+  -- "Case P3 gives it 86 bytes and prints `FOUND 1 1 101` and a line end.": the program
+  pub P3-bytes : length (inputOf adderBytes A (down 0)) ≡ 86
+  pub P3-line : lineOf (inputOf adderBytes A (down 0)) ≡ foundWord ++ (49 ∷ 32 ∷ 49 ∷ 32 ∷ 49 ∷ 48 ∷ 49 ∷ 10 ∷ [])
+  pub P3-word : foundWord ≡ 70 ∷ 79 ∷ 85 ∷ 78 ∷ 68 ∷ 32 ∷ []
   pub P3-row : rowAfter adderBytes (runEffect adderBytes A (down 0) memory8 memory8) ≡ 1 ∷ 0 ∷ 1 ∷ []
   -- "P4 A, down 3: as option 1, row 0 1 1."
   pub P4 : runEffect adderBytes A (down 3) memory8 memory8
@@ -93,18 +156,3 @@ pub record P1ToP12 : Type 0 where
   pub P11-row : rowAfter cornerBytes (runEffect cornerBytes (0 ∷ four 0 1 1 1 []) (up 0 ++ down 0) memory5 memory5) ≡ 0 ∷ 1 ∷ []
   -- "P12 Mark of A: no."
   pub P12 : markEffect adderBytes A ≡ record { accepted = true; number = 0; yes = false }
-
--- More of Run.
-pub record Examples : Type 0 where
-  -- Found at the start, and in the midst of a tape: the entries behind are not done. Surplus of both memories stands.
-  pub at-once : runEffect adderBytes B (down 0 ++ up 0) memory memory
-      ≡ reported Found 0 0 B (four 1 1 0 0 (four 1 0 0 1 (170 ∷ 170 ∷ []))) (four 1 1 0 0 (four 1 0 0 1 (170 ∷ 170 ∷ [])))
-  pub in-the-midst : runEffect adderBytes A (down 0 ++ (up 0 ++ up 0)) memory8 memory8 ≡ runEffect adderBytes A (down 0) memory8 memory8
-  -- 8 before 9, 11 before 12, 12 before 13, 13 before 14, 13 in an entry never reached, 14 of either memory; all memories stand
-  pub map-first : runEffect (withByte 64 3 adderBytes) [] [] memory8 memory8 ≡ refused 8 [] memory8 memory8
-  pub code-first : runEffect adderBytes (four 0 0 1 1 (four 0 1 0 0 [])) (0 ∷ []) memory8 memory8 ≡ refused 11 (four 0 0 1 1 (four 0 1 0 0 [])) memory8 memory8
-  pub length-first : runEffect adderBytes A (0 ∷ four 0 3 0 0 []) memory8 memory8 ≡ refused 12 A memory8 memory8
-  pub kind-first : runEffect adderBytes A (down 0 ++ four 0 0 3 0 []) memory3 memory8 ≡ refused 13 A memory3 memory8
-  pub never-reached : runEffect adderBytes B (four 0 0 3 0 []) memory8 memory8 ≡ refused 13 B memory8 memory8
-  pub short-work : runEffect adderBytes B [] (take 7 memory) memory8 ≡ refused 14 B (take 7 memory) memory8
-  pub short-answer : runEffect adderBytes B [] memory8 (take 7 memory) ≡ refused 14 B memory8 (take 7 memory)

@@ -1,25 +1,26 @@
 -- An input's parts, and the line of the run on them. Assumes nothing.
 use Prim.Native.Nat.{ℕ, _+_, _-_, _<_, _≤_}
-use mathlib.Core.Path.{_≡_, ap}
+use mathlib.Core.Path.{_≡_, sym, ap, _∙_}
+use mathlib.Core.Logic.{inl, inr}
 use mathlib.Core.Bool.{true, false}
 use mathlib.Core.List.{List, _++_}
 use native.Mathlib.Omega.{arith}
 use lib.ListN.{length, take, drop, length-append}
-use lib.Seq.{take-at, take-all, take-append-seam, drop-drop, drop-append-seam}
-use borrow.Author.Tests.{leb-true, le-leb, lt-leb, eqb-true, eq-eqb}
-use Rattle.folds.proofs.Tests.{and-left, and-right, and-both}
-use Rattle.circuit.specs.declared.Ending.the-variants.{Found}
+use lib.Seq.{take-at, take-all, length-take-le, take-append-seam, drop-drop, drop-append-seam}
+use lib.Dec.{leb}
+use borrow.Author.Tests.{leb-true, leb-false, le-leb, lt-leb, eqb-true, eq-eqb}
+use Rattle.folds.proofs.Tests.{which, and-left, and-right, and-both, and-first-false}
 use Rattle.map.specs.Map.{u16At}
 use Rattle.map.specs.Inner.{Shaped}
 use Rattle.map.proofs.Accepted.{facts}
 use Rattle.search.specs.Run.{runEffect}
 use Rattle.search.proofs.Endings.{found-passes}
-use Rattle.line.specs.Text.{Wrote}
-use Rattle.line.specs.Line.{mostInput, tapeAt, mapPart, configurationPart, tapePart, inputTest, lent, refusedLine, runLine, lineOf, inputOf, lineRoom, LineEffect, lineAnswer, lineEffect}
+use Rattle.line.specs.Inner.{Wrote}
+use Rattle.line.specs.Line.{mostInput, inputRoom, tapeAt, mapPart, configurationPart, tapePart, inputTest, refusedLine, runLine, lineOf, inputOf, CutInput, LineOfAll, lineRoom, LineEffect, lineAnswer, lineEffect}
 use Rattle.line.proofs.Writing.{wrote-over}
 
 -- what Found tells of the map
-pub found-shaped : (m s tape work ans : List ℕ) → runEffect m s tape work ans .outcome .ending ≡ Found → Shaped m
+pub found-shaped : (m s tape work ans : List ℕ) → runEffect m s tape work ans .found ≡ true → Shaped m
 found-shaped m s tape work ans f = facts m (found-passes m s tape work ans f) .sound .placed .shaped
 
 -- what a whole input is
@@ -39,9 +40,27 @@ module _ (x : List ℕ) where
   unfolding lineOf
   line-refused e = rw e
 
-  pub line-runs : inputTest x ≡ true → runLine (mapPart x) (runEffect (mapPart x) (configurationPart x) (tapePart x) lent lent) ≡ lineOf x
+  pub line-runs : inputTest x ≡ true → runLine (mapPart x) (configurationPart x) (tapePart x) ≡ lineOf x
   unfolding lineOf
   line-runs e = rw e
+
+-- ---- an input that is too long
+
+pub too-long : (x : List ℕ) → mostInput < length x → lineOf x ≡ refusedLine 0
+unfolding inputTest
+too-long x h = sym (line-refused x (and-first-false _ _ (lt-leb (length x) mostInput h)))
+
+pub cut-input : CutInput
+cut-input x = elim (which (leb (length x) inputRoom)) [
+  | inl q ↦ ap lineOf (take-all inputRoom x (leb-true _ _ q))
+  | inr q ↦ (let h : inputRoom < length x = leb-false _ _ q in
+      let n : length (take inputRoom x) ≡ inputRoom = length-take-le inputRoom x (omega arith) in
+      too-long (take inputRoom x) (omega arith) ∙ sym (too-long x (omega arith)))
+]
+
+-- the line of what was read, where memory was long enough
+pub line-of-all : (room : ℕ) (read text : List ℕ) → room ≡ inputRoom → text ≡ lineOf read → LineOfAll room read text
+line-of-all room read text e h x r = h ∙ ap lineOf (r ∙ ap (λ (n : ℕ). take n x) e) ∙ cut-input x
 
 -- ---- an input of three bodies
 

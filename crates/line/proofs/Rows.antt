@@ -12,8 +12,9 @@ use Rattle.circuit.specs.Tools.{upTo, select}
 use Rattle.circuit.specs.Gate.{kindOf, isInput}
 use Rattle.circuit.specs.Evaluate.{rowOf}
 use Rattle.map.specs.Map.{gateCount, kindByte}
-use Rattle.line.specs.Text.{digit, Wrote}
-use Rattle.line.specs.Line.{rowText, inputText, rowBelow}
+use Rattle.line.specs.Text.{digit}
+use Rattle.line.specs.Inner.{Wrote, inputText, rowBelow}
+use Rattle.line.specs.Line.{rowText}
 use Rattle.line.proofs.Writing.{wrote-then}
 
 module _ (m ans : List ℕ) where

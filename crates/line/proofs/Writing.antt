@@ -9,7 +9,8 @@ use lib.ListN.{length, getD, set, take, drop, length-append}
 use lib.Seq.{sets, sets-eq, take-suc, take-length, take-at, length-take-le}
 use borrow.Author.Tests.{lt-ltb, le-ltb}
 use Rattle.state.specs.State.{over}
-use Rattle.line.specs.Text.{decimalIn, Wrote}
+use Rattle.line.specs.Text.{decimalIn}
+use Rattle.line.specs.Inner.{Wrote}
 
 sets-append : (x y w : List ℕ) (at : ℕ) → sets (sets w at x) (at + length x) y ≡ sets w at (x ++ y)
 sets-append [] y w at = rw (add-zero at)

@@ -1,3 +1,3 @@
 pub mod Text
 pub mod Line
-pub mod Bench
+pub mod Inner

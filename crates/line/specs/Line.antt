@@ -1,19 +1,18 @@
 -- Document 01's program: from the bytes of standard input to the line that it prints. What it means is proved in `demands`. Assumes nothing.
-use Prim.Native.Nat.{ℕ, zero, suc, _+_, _-_, _/_, _%_, _<_, _≤_}
+use Prim.Native.Nat.{ℕ, _+_, _-_, _/_, _%_, _<_, _≤_}
 use mathlib.Core.Path.{_≡_}
+use mathlib.Core.Logic.{_⊎_}
 use mathlib.Core.Bool.{Bool, cond}
-use mathlib.Core.List.{List, [], _∷_, _++_, map}
-use lib.ListN.{length, getD, take, drop, replicate}
+use mathlib.Core.List.{List, _∷_, _++_, map}
+use lib.ListN.{length, take, drop, replicate}
 use lib.Dec.{eqb, leb}
 use Rattle.folds.specs.Folds.{_and_}
-use Rattle.circuit.specs.declared.Ending.{Ending}
-use Rattle.circuit.specs.declared.Ending.the-variants.{Found, Spent, Refused}
-use Rattle.circuit.specs.Gate.{kindOf, isInput}
 use Rattle.circuit.specs.Evaluate.{rowOf}
-use Rattle.map.specs.Map.{mostGates, u16At, kindByte, circuit}
+use Rattle.circuit.specs.Run.{EndingValues}
+use Rattle.map.specs.Map.{mostGates, u16At, circuit}
 use Rattle.state.specs.State.{over}
-use Rattle.search.specs.Run.{RunEffect, runEffect, Room}
-use Rattle.line.specs.Text.{foundWord, spentWord, refusedWord, blank, lineEnd, digit, decimal}
+use Rattle.search.specs.Run.{RunEffect, endingOf, runEffect, Room}
+use Rattle.line.specs.Text.{AreBytes, foundWord, spentWord, refusedWord, blank, lineEnd, digit, decimal}
 
 -- the bytes from place a on, up to before place b
 abbrev pub between : ℕ → ℕ → List ℕ → List ℕ
@@ -67,22 +66,21 @@ spentLine front moves flips = countsText spentWord moves flips ++ (decimal front
 abbrev pub refusedLine : ℕ → List ℕ
 refusedLine number = refusedWord ++ (decimal number ++ lineEnd)
 
--- for each ending, with moves, flips and the answer memory after the run
-abbrev pub report : Ending → ℕ → ℕ → List ℕ → List ℕ → List ℕ
-report Found moves flips m ans = foundLine moves flips m ans
-report (Spent front) moves flips m ans = spentLine front moves flips
-report (Refused number) moves flips m ans = refusedLine number
+-- by what an ending tells, with moves, flips and the answer memory after the run
+abbrev pub report : EndingValues → ℕ → ℕ → List ℕ → List ℕ → List ℕ
+report e moves flips m ans = cond (e .accepted) (cond (e .found) (foundLine moves flips m ans) (spentLine (e .front) moves flips)) (refusedLine (e .number))
 
--- the line of a run
-abbrev pub runLine : List ℕ → RunEffect → List ℕ
-runLine m r = report (r .outcome .ending) (r .outcome .moves) (r .outcome .flips) m (r .answer)
+-- the line of a run's effect
+abbrev pub effectLine : List ℕ → RunEffect → List ℕ
+effectLine m r = report (endingOf r) (r .moves) (r .flips) m (r .answer)
+
+-- the line of the run on these three bodies
+abbrev pub runLine : List ℕ → List ℕ → List ℕ → List ℕ
+runLine m s tape = effectLine m (runEffect m s tape lent lent)
 
 -- the line that the program prints for an input
 unfoldable pub lineOf : List ℕ → List ℕ
-lineOf x =
-    cond (inputTest x)
-    (runLine (mapPart x) (runEffect (mapPart x) (configurationPart x) (tapePart x) lent lent))
-    (refusedLine 0)
+lineOf x = cond (inputTest x) (runLine (mapPart x) (configurationPart x) (tapePart x)) (refusedLine 0)
 
 -- ---- what the line says
 
@@ -92,18 +90,20 @@ inputOf m s tape = length m % 256 ∷ length m / 256 ∷ length s % 256 ∷ leng
 
 -- An input of exactly these bodies, at most 65,536 bytes in all, gives the line of the run on them.
 abbrev pub ExactInput : Type 0
-ExactInput = (m s tape : List ℕ) → 6 + length m + length s + length tape ≤ mostInput → lineOf (inputOf m s tape) ≡ runLine m (runEffect m s tape lent lent)
+ExactInput = (m s tape : List ℕ) → 6 + length m + length s + length tape ≤ mostInput → lineOf (inputOf m s tape) ≡ runLine m s tape
 
 -- Any work and answer memory that number 14 lets through would give the same line.
 abbrev pub SameLineForAllMemories : Type 0
-SameLineForAllMemories = (m s tape work ans : List ℕ) → Room m work ans → runLine m (runEffect m s tape work ans) ≡ runLine m (runEffect m s tape lent lent)
+SameLineForAllMemories = (m s tape work ans : List ℕ) → Room m work ans → effectLine m (runEffect m s tape work ans) ≡ runLine m s tape
 
--- "the number is 0 if the input passes 65,536 bytes or isn't exactly the 6 bytes and the three lengths together"
-abbrev pub TooLong : Type 0
-TooLong = (x : List ℕ) → mostInput < length x → lineOf x ≡ refusedLine 0
+-- An input is exactly three bodies, and has the line of the run on them, or it is refused: "the number is 0 if the input passes 65,536 bytes or isn't exactly the 6 bytes and
+-- the three lengths together".
+pub data InputIs (x : List ℕ) : Type 0 where
+  three-bodies : (m s tape : List ℕ) → x ≡ inputOf m s tape → length x ≤ mostInput → lineOf x ≡ runLine m s tape → InputIs x
+  refused-0 : (mostInput < length x) ⊎ (¬ (length x ≡ 6 + u16At x 0 + u16At x 2 + u16At x 4)) → lineOf x ≡ refusedLine 0 → InputIs x
 
-abbrev pub NotExact : Type 0
-NotExact = (x : List ℕ) → ¬ (length x ≡ 6 + u16At x 0 + u16At x 2 + u16At x 4) → lineOf x ≡ refusedLine 0
+abbrev pub EveryInput : Type 0
+EveryInput = (x : List ℕ) → AreBytes x → InputIs x
 
 -- what the program reads at most: a byte more, so that a longer input shows
 abbrev pub inputRoom : ℕ
@@ -112,6 +112,10 @@ inputRoom = mostInput + 1
 -- The line for the bytes read is the line for the whole input.
 abbrev pub CutInput : Type 0
 CutInput = (x : List ℕ) → lineOf (take inputRoom x) ≡ lineOf x
+
+-- `text` is the line for all of standard input where `read` is what memory of `room` bytes took of it
+abbrev pub LineOfAll : ℕ → List ℕ → List ℕ → Type 0
+LineOfAll room read text = (x : List ℕ) → read ≡ take room x → text ≡ lineOf x
 
 -- memory that holds every line
 abbrev pub lineRoom : ℕ
@@ -134,13 +138,3 @@ lineAnswer n w = record { size = n; out = w }
 -- the line stands in the first bytes of the memory and the surplus is untouched; where memory is shorter than `lineRoom` nothing is written, and the size is 0
 unfoldable pub lineEffect : List ℕ → List ℕ → LineEffect
 lineEffect x out = cond (leb lineRoom (length out)) (lineAnswer (length (lineOf x)) (over (lineOf x) out)) (lineAnswer 0 out)
-
--- ---- for inner functions
-
--- the digit of gate g's value, if it is an input; and those of the gates below n
-unfoldable pub inputText : List ℕ → List ℕ → ℕ → List ℕ
-inputText m ans g = cond (isInput (kindOf (kindByte m g))) (digit (getD ans g 0) ∷ []) []
-
-unfoldable pub rowBelow : List ℕ → List ℕ → ℕ → List ℕ
-rowBelow m ans zero = []
-rowBelow m ans (suc g) = rowBelow m ans g ++ inputText m ans g

@@ -1,11 +1,14 @@
--- Text as bytes, and text written into memory. Assumes nothing.
+-- Text as bytes. Assumes nothing.
 use Prim.Native.Nat.{ℕ, zero, suc, _+_, _-_, _*_, _/_, _%_, _≤_, _<_}
 use mathlib.Core.Path.{_≡_}
 use mathlib.Core.Bool.{cond}
 use mathlib.Core.List.{List, [], _∷_, _++_, List·Memᴰ as In}
-use lib.ListN.{length, getD}
-use lib.Seq.{sets}
+use lib.ListN.{getD}
 use lib.Dec.{eqb, ltb}
+
+-- each is a byte
+abbrev pub AreBytes : List ℕ → Type 0
+AreBytes bs = (b : ℕ) → In b bs → b < 256
 
 -- "FOUND ", "SPENT " and "REFUSED ", a blank and a line end
 abbrev pub foundWord : List ℕ
@@ -47,18 +50,13 @@ readDecimal bs = readOn 0 bs
 -- A number of at most ten places in decimal:
 --     reads             it reads back,
 --     digits            each byte is one of the digits 0 to 9,
---     no-leading-zero   and the first is not 0; 0 itself is that one digit (`zero` of the examples)
+--     no-leading-zero   and the first is not 0;
+--     zero-is           0 itself is that one digit
 pub record DecimalIs (n : ℕ) : Type 0 where
   pub reads : readDecimal (decimal n) ≡ n
   pub digits : (b : ℕ) → In b (decimal n) → (48 ≤ b) × (b ≤ 57)
   pub no-leading-zero : 1 ≤ n → ¬ (getD (decimal n) 0 0 ≡ 48)
+  pub zero-is : n ≡ 0 → decimal n ≡ 48 ∷ []
 
 abbrev pub DecimalReads : Type 0
 DecimalReads = (n : ℕ) → n < 10000000000 → DecimalIs n
-
--- ---- for inner functions
-
--- The text x stands in memory from place `at` on and ends before place `end`; no other byte of w has changed.
-pub record Wrote (at : ℕ) (x w after : List ℕ) (end : ℕ) : Type 0 where
-  pub memory : after ≡ sets w at x
-  pub behind : end ≡ at + length x

@@ -7,14 +7,14 @@ use map::decode;
 ghost use mathlib.Core.Path.{_≡_};
 ghost use Prim.Native.Nat.{_≤_};
 ghost use lib.ListN.{length};
-ghost use Rattle.search.specs.Run.{runEffect};
-ghost use Rattle.line.specs.Text.{Wrote};
-ghost use Rattle.line.specs.Line.{mostInput, lineRoom, lent, runLine, inputTest, lineOf};
+ghost use Rattle.line.specs.Inner.{Wrote};
+ghost use Rattle.line.specs.Line.{mostInput, lineRoom, runLine, inputTest, lineOf};
 
 // Runs, with work and answer memory for every map, and writes the line.
 fn put_run(map: &[u8], configuration: &mut [u8], tape: &[u8], out: &mut [u8]) -> usize
     requires { ⌜ lineRoom ≤ length (now out) ⌝ }
-    ensures { λ r. ⌜ Wrote 0 (runLine (now (map .entry)) (runEffect (now (map .entry)) (now (configuration .entry)) (now (tape .entry)) lent lent)) (now (out .entry)) (now (out .exit)) r × (r ≤ lineRoom) ⌝ }
+    ensures { λ r. ⌜ Wrote 0 (runLine (now (map .entry)) (now (configuration .entry)) (now (tape .entry))) (now (out .entry)) (now (out .exit)) r
+        × (r ≤ lineRoom) ⌝ }
 {
     let mut work = [0u8; MOST_GATES];
     let mut answer = [0u8; MOST_GATES];
@@ -28,7 +28,8 @@ fn put_run(map: &[u8], configuration: &mut [u8], tape: &[u8], out: &mut [u8]) ->
 // The same on a copy of the configuration, which a run changes.
 fn put_parts(map: &[u8], configuration: &[u8], tape: &[u8], out: &mut [u8]) -> usize
     requires { ⌜ (length (now configuration) ≤ mostInput) × (lineRoom ≤ length (now out)) ⌝ }
-    ensures { λ r. ⌜ Wrote 0 (runLine (now (map .entry)) (runEffect (now (map .entry)) (now (configuration .entry)) (now (tape .entry)) lent lent)) (now (out .entry)) (now (out .exit)) r × (r ≤ lineRoom) ⌝ }
+    ensures { λ r. ⌜ Wrote 0 (runLine (now (map .entry)) (now (configuration .entry)) (now (tape .entry))) (now (out .entry)) (now (out .exit)) r
+        × (r ≤ lineRoom) ⌝ }
 {
     let mut space = [0u8; MOST_INPUT];
     let n = text::put_all(configuration, &mut space, 0);

@@ -5,11 +5,12 @@ use map::decode;
 ghost use mathlib.Core.Path.{_≡_};
 ghost use Prim.Native.Nat.{_+_, _<_, _≤_};
 ghost use lib.ListN.{length};
-ghost use Rattle.circuit.specs.declared.Ending.the-variants.{Found};
+ghost use mathlib.Core.Bool.{true};
+ghost use Rattle.circuit.specs.Run.{told};
 ghost use Rattle.map.specs.Map.{mostGates, gateCount};
 ghost use Rattle.map.specs.Inner.{Shaped};
-ghost use Rattle.line.specs.Text.{Wrote};
-ghost use Rattle.line.specs.Line.{lineRoom, inputText, rowText, countsText, foundLine, spentLine, refusedLine, report};
+ghost use Rattle.line.specs.Inner.{Wrote, inputText};
+ghost use Rattle.line.specs.Line.{lineRoom, rowText, countsText, foundLine, spentLine, refusedLine, report};
 
 // The digit of gate g's value, if it is an input.
 fn put_input(map: &[u8], g: usize, answer: &[u8], out: &mut [u8], at: usize) -> usize
@@ -53,7 +54,8 @@ fn put_counts(word: &[u8], moves: u16, flips: u32, out: &mut [u8]) -> usize
 // `FOUND moves flips row`
 fn put_found(map: &[u8], moves: u16, flips: u32, answer: &[u8], out: &mut [u8]) -> usize
     requires { ⌜ Shaped (now map) × ((mostGates ≤ length (now answer)) × (lineRoom ≤ length (now out))) ⌝ }
-    ensures { λ r. ⌜ Wrote 0 (foundLine moves flips (now (map .entry)) (now (answer .entry))) (now (out .entry)) (now (out .exit)) r × (r ≤ lineRoom) ⌝ }
+    ensures { λ r. ⌜ Wrote 0 (foundLine moves flips (now (map .entry)) (now (answer .entry))) (now (out .entry)) (now (out .exit)) r
+        × (r ≤ lineRoom) ⌝ }
 {
     let n = decode::read_contents(map);
     let a = put_counts(b"FOUND ", moves, flips, out);
@@ -90,8 +92,9 @@ pub fn put_report(
     answer: &[u8],
     out: &mut [u8],
 ) -> usize
-    requires { ⌜ (ending ≡ Found → Shaped (now map)) × ((mostGates ≤ length (now answer)) × (lineRoom ≤ length (now out))) ⌝ }
-    ensures { λ r. ⌜ Wrote 0 (report ending moves flips (now (map .entry)) (now (answer .entry))) (now (out .entry)) (now (out .exit)) r × (r ≤ lineRoom) ⌝ }
+    requires { ⌜ (told ending .found ≡ true → Shaped (now map)) × ((mostGates ≤ length (now answer)) × (lineRoom ≤ length (now out))) ⌝ }
+    ensures { λ r. ⌜ Wrote 0 (report (told ending) moves flips (now (map .entry)) (now (answer .entry))) (now (out .entry)) (now (out .exit)) r
+        × (r ≤ lineRoom) ⌝ }
 {
     match ending {
         Ending::Found => put_found(map, moves, flips, answer, out),

@@ -3,7 +3,8 @@ ghost use mathlib.Core.Path.{_≡_};
 ghost use mathlib.Core.List.{[], _∷_};
 ghost use Prim.Native.Nat.{_+_, _<_, _≤_};
 ghost use lib.ListN.{length};
-ghost use Rattle.line.specs.Text.{digit, decimalIn, Wrote};
+ghost use Rattle.line.specs.Text.{digit, decimalIn};
+ghost use Rattle.line.specs.Inner.{Wrote};
 
 // A byte.
 pub fn put(b: u8, out: &mut [u8], at: usize) -> usize

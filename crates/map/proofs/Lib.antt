@@ -4,4 +4,3 @@ pub mod Parts
 pub mod Answers
 pub mod Codes
 pub mod Described
-pub mod Bench

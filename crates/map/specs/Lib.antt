@@ -2,4 +2,3 @@ pub mod Map
 pub mod Check
 pub mod Inner
 pub mod Children
-pub mod Bench

@@ -37,7 +37,8 @@ fn child_mark(relevant: bool, b: u8) -> u8
 // Child x of a justified gate of this kind and value comes into the cone if it is relevant. The mark is written in any case: a jump here would often be foretold wrongly.
 fn mark_child(kind: u8, v: bool, x: usize, s: &[u8], marks: &mut [u8])
     requires { ⌜ (x < length (now s)) × (x < length (now marks)) ⌝ }
-    ensures { λ _. ⌜ now (marks .exit) ≡ paint toOne (select (λ y. relevant (kindOf kind) v (on (now (s .entry)) y)) (x ∷ [])) (now (marks .entry)) ⌝ }
+    ensures { λ _. ⌜ now (marks .exit)
+        ≡ paint toOne (select (λ y. relevant (kindOf kind) v (on (now (s .entry)) y)) (x ∷ [])) (now (marks .entry)) ⌝ }
 {
     marks[x] = child_mark(kinds::relevant(kind, v, s[x] == 1), marks[x]);
 }

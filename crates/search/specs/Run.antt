@@ -12,7 +12,7 @@ use Rattle.circuit.specs.declared.Ending.the-variants.{Found, Spent, Refused}
 use Rattle.circuit.specs.declared.Outcome.{Outcome}
 use Rattle.circuit.specs.Circuit.{Circuit}
 use Rattle.circuit.specs.Survey.{survey}
-use Rattle.circuit.specs.Run.{told, RunResult, run, answer}
+use Rattle.circuit.specs.Run.{EndingValues, told, RunResult, run, answer}
 use Rattle.map.specs.Map.{gateCount, circuit}
 use Rattle.map.specs.Check.{firstFailed, mapTests, Test, MapNumber}
 use Rattle.state.specs.State.{over, HasRoom}
@@ -44,6 +44,10 @@ pub record RunEffect : Type 0 where
   pub work : List ℕ
   pub answer : List ℕ
 
+-- what its ending tells
+abbrev pub endingOf : RunEffect → EndingValues
+endingOf r = record { accepted = r .accepted; number = r .number; found = r .found; front = r .front }
+
 -- of the record that is returned, beside the memories: `told` has the number and values of each case of its ending
 unfoldable pub runAnswer : Outcome → List ℕ → List ℕ → List ℕ → RunEffect
 runAnswer o s w a = record {
@@ -68,6 +72,10 @@ answerMemory (Refused n) x ans = ans
 unfoldable pub runEnded : Circuit → RunResult → List ℕ → List ℕ → RunEffect
 runEnded c r work ans = runAnswer (r .outcome) (r .last) (over (survey c (r .last)) work) (answerMemory (r .outcome .ending) (answer c (r .last)) ans)
 
+-- Run where no test refuses it
+abbrev pub runOnTape : List ℕ → List ℕ → List ℕ → List ℕ → List ℕ → RunEffect
+runOnTape m s tape work ans = runEnded (circuit m) (run (circuit m) s (entries tape)) work ans
+
 -- "the other numbers of its answer, as Run's moves and flips, are then 0"
 abbrev pub refusedOutcome : ℕ → Outcome
 refusedOutcome n = record { ending = Refused n; moves = 0; flips = 0 }
@@ -76,7 +84,7 @@ refusedOutcome n = record { ending = Refused n; moves = 0; flips = 0 }
 unfoldable pub runBy : ℕ → List ℕ → List ℕ → List ℕ → List ℕ → List ℕ → RunEffect
 runBy n m s tape work ans =
     cond (eqb n 0)
-    (runEnded (circuit m) (run (circuit m) s (entries tape)) work ans)
+    (runOnTape m s tape work ans)
     (runAnswer (refusedOutcome n) s work ans)
 
 unfoldable pub runEffect : List ℕ → List ℕ → List ℕ → List ℕ → List ℕ → RunEffect

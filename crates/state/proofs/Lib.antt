@@ -4,4 +4,3 @@ pub mod Marks
 pub mod Given
 pub mod Answers
 pub mod Meaning
-pub mod Bench

@@ -49,7 +49,9 @@ fn gate_value(map: &[u8], counts: Counts, g: usize, row: &[u8], at: usize, out: 
     requires { ⌜ Counted (now map) counts ⌝ }
     requires { ⌜ (g < counts .gates) × (counts .gates ≤ length (now out)) ⌝ }
     requires { ⌜ RowTested counts (now row) × (at ≡ inputsBefore (circuit (now map)) g) ⌝ }
-    ensures { λ r. ⌜ r ≡ byte (cond (isInput (kindOf (kindByte (now (map .entry)) g))) (on (now (row .entry)) at) (given (circuit (now (map .entry))) (now (out .entry)) g)) ⌝ }
+    ensures { λ r. ⌜ r ≡ byte (cond (isInput (kindOf (kindByte (now (map .entry)) g)))
+        (on (now (row .entry)) at)
+        (given (circuit (now (map .entry))) (now (out .entry)) g)) ⌝ }
 {
     if decode::kind(map, g) == 0 {
         return row[at];

@@ -61,7 +61,8 @@ fn weigh_all(
     requires { ⌜ Counted (now map) counts ⌝ }
     requires { ⌜ (g < counts .gates) × Space (counts .gates) (now s) (now trial) (now scratch) ⌝ }
     requires { ⌜ n ≤ length (now weighed) ⌝ }
-    ensures { λ _. ⌜ now (weighed .exit) ≡ weightsOf (interestAfter (now (map .entry)) (now (s .entry))) (now (map .entry)) (now (s .entry)) g n ++ drop n (now (weighed .entry)) ⌝ }
+    ensures { λ _. ⌜ now (weighed .exit)
+        ≡ weightsOf (interestAfter (now (map .entry)) (now (s .entry))) (now (map .entry)) (now (s .entry)) g n ++ drop n (now (weighed .entry)) ⌝ }
 {
     let mut i = 0;
     while i < n {

@@ -34,7 +34,9 @@ pub fn flip(s: &mut [u8], x: usize)
 // Turns child j of a gate of this kind and value, which is gate x, if option i does. Returns 1 if so, else 0.
 fn flip_child(kind: u8, v: bool, i: usize, j: usize, x: usize, s: &mut [u8]) -> u32
     requires { ⌜ x < length (now s) ⌝ }
-    ensures { λ r. ⌜ (now (s .exit) ≡ cond (optionTurns (kindOf kind) v i j (on (now (s .entry)) x)) (turn (x ∷ []) (now (s .entry))) (now (s .entry))) × ((r ≡ byte (optionTurns (kindOf kind) v i j (on (now (s .entry)) x))) × (r ≤ 1)) ⌝ }
+    ensures { λ r. ⌜ (now (s .exit)
+        ≡ cond (optionTurns (kindOf kind) v i j (on (now (s .entry)) x)) (turn (x ∷ []) (now (s .entry))) (now (s .entry)))
+        × ((r ≡ byte (optionTurns (kindOf kind) v i j (on (now (s .entry)) x))) × (r ≤ 1)) ⌝ }
 {
     if kinds::turns(kind, v, i, j, s[x] == 1) {
         flip(s, x);

@@ -1,4 +1,3 @@
 pub mod Starts
 pub mod Answers
 pub mod Meaning
-pub mod Bench

@@ -6,7 +6,7 @@ use peeriewick::raw;
 use peeriewick_tests::engine::{self, Answer, Ending};
 use std::fmt;
 
-/// What a call tells: the number that declines it or 0, and all numbers of an accepted call's answer in the header's order.
+/// What a call tells: the number that it is refused with or 0, and all numbers of an accepted call's answer in the header's order.
 #[derive(Debug, Clone, PartialEq, Eq)]
 pub struct Told {
     pub number: u8,
@@ -120,7 +120,7 @@ fn tell(call: &mut Call) -> Told {
     }
 }
 
-/// The outcome of a call that tells this and leaves the memories like that: "as many as it has places for", none where it declines.
+/// The outcome of a call that tells this and leaves the memories like that: "as many as it has places for", none where it is refused.
 fn outcome(told: &Told, left: Call) -> Outcome {
     let mut numbers = left.numbers;
     for (place, number) in numbers.iter_mut().zip(&told.numbers) {

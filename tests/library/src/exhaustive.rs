@@ -14,7 +14,7 @@ pub struct Exhaustive<'a> {
     dice: Dice,
 }
 
-/// Accepted maps of up to four gates, then those that check declines.
+/// Accepted maps of up to four gates, then those that check refuses.
 pub fn exhaustive(harness: &mut Harness) -> Tried {
     let mut all = Exhaustive { harness, dice: Dice(1) };
     let two: Vec<Vec<u8>> = tapes(&entries(3, 4));

@@ -1,6 +1,6 @@
 //! Holds the proved engine's static library against the independent engine: every call, every lent byte afterwards, and the bytes around them.
 //!
-//!     peeriewick-library exhaustive        every map of up to three gates with every start through every call, and small maps that are declined
+//!     peeriewick-library exhaustive        every map of up to three gates with every start through every call, and small maps that are refused
 //!     peeriewick-library random SEED N     N random calls on maps of every size and shape
 //!     peeriewick-library damaged SEED N    every number and every pair of failing tests, then N calls with random damage
 //!     peeriewick-library long              long tapes, large maps, and lengths past 32 bits

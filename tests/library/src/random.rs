@@ -161,7 +161,7 @@ pub fn random(harness: &mut Harness, seed: u64, n: usize) -> Result<String, Stri
         met.note(&call, &told);
     }
     let Met { sizes, found, spent, long, refused } = met;
-    let counts = format!("{} sizes of maps, {found} found, {spent} spent, {long} of over 10,000 moves, {refused} declined", sizes.len());
+    let counts = format!("{} sizes of maps, {found} found, {spent} spent, {long} of over 10,000 moves, {refused} refused", sizes.len());
     match n >= 16_384 && (sizes.len() != 1024 || found.min(spent).min(refused) < 1000 || long == 0) {
         true => Err(format!("the random calls are bare: {counts}")),
         false => Ok(counts),

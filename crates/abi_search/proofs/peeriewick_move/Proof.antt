@@ -1,4 +1,3 @@
-use mathlib.Core.Path.{refl}
 use Rattle.search.specs.Move.{moveAnswer}
 use borrow.Author.Needs.{needs}
 use Rattle.abi_search.proofs.peeriewick_move.Statement.{statement}
@@ -13,7 +12,7 @@ unfolding moveAnswer
 returns c =
     let k : tie.After-k = search in
     let m : tie.After-make-move = search in
-    rw (← (rw (k .k .given .1) at (m .make-move .ensures))) (refl, (refl, (refl, refl)))
+    rw (← (rw (k .k .given .1) at (m .make-move .ensures)))
 
 returns-2 : tie.Need-returns-2
 unfolding moveAnswer
@@ -21,7 +20,7 @@ returns-2 c =
     let w : tie.After-two = search in
     let t : tie.After-t = search in
     let m : tie.After-make-move = search in
-    rw (← (rw (t .t .given .1) at (m .make-move .ensures))) (w .two .ensures .0, (refl, (refl, w .two .ensures .1)))
+    rw (← (rw (t .t .given .1) at (m .make-move .ensures)), w .two .ensures .0, w .two .ensures .1)
 
 pub peeriewick-move-spec : {M : Type 1} → statement M
 peeriewick-move-spec =

@@ -1,4 +1,4 @@
-use mathlib.Core.Path.{refl, sym, ap, _∙_}
+use mathlib.Core.Path.{sym, ap, _∙_}
 use Rattle.map.specs.Check.{checkAnswer}
 use borrow.Author.Needs.{needs}
 use Rattle.abi_state.proofs.peeriewick_check.Statement.{statement}
@@ -13,7 +13,7 @@ unfolding checkAnswer
 returns c =
     let k : tie.After-k = search in
     let h : tie.After-check = search in
-    rw (← (ap checkAnswer (sym (k .k .given .1)) ∙ h .check .ensures)) (refl, refl)
+    rw (← (ap checkAnswer (sym (k .k .given .1)) ∙ h .check .ensures))
 
 returns-2 : tie.Need-returns-2
 unfolding checkAnswer
@@ -21,7 +21,7 @@ returns-2 c =
     let f : tie.After-four = search in
     let n : tie.After-c = search in
     let h : tie.After-check = search in
-    rw (← (ap checkAnswer (sym (n .c .given .1)) ∙ h .check .ensures)) (f .four .ensures)
+    rw (← (ap checkAnswer (sym (n .c .given .1)) ∙ h .check .ensures), f .four .ensures .0, f .four .ensures .1)
 
 pub peeriewick-check-spec : {M : Type 1} → statement M
 peeriewick-check-spec =

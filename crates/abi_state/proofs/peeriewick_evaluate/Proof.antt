@@ -1,4 +1,3 @@
-use mathlib.Core.Path.{refl}
 use Rattle.state.specs.State.{evaluateAnswer}
 use borrow.Author.Needs.{needs}
 use Rattle.abi_state.proofs.peeriewick_evaluate.Statement.{statement}
@@ -12,13 +11,13 @@ unfolding evaluateAnswer
 returns c =
     let k : tie.After-k = search in
     let e : tie.After-evaluate = search in
-    rw (← (rw (k .k .given .1) at (e .evaluate .ensures))) (refl, refl)
+    rw (← (rw (k .k .given .1) at (e .evaluate .ensures)))
 
 returns-2 : tie.Need-returns-2
 unfolding evaluateAnswer
 returns-2 c =
     let e : tie.After-evaluate = search in
-    rw (← (rw (c .enum-told .given .1) at (e .evaluate .ensures))) (refl, refl)
+    rw (← (rw (c .enum-told .given .1) at (e .evaluate .ensures)))
 
 pub peeriewick-evaluate-spec : {M : Type 1} → statement M
 peeriewick-evaluate-spec =

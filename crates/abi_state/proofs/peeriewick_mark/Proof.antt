@@ -1,4 +1,4 @@
-use mathlib.Core.Path.{refl, sym, ap, _∙_}
+use mathlib.Core.Path.{sym, ap, _∙_}
 use Rattle.state.specs.State.{markAnswer}
 use borrow.Author.Needs.{needs}
 use Rattle.abi_state.proofs.peeriewick_mark.Statement.{statement}
@@ -13,7 +13,7 @@ unfolding markAnswer
 returns c =
     let k : tie.After-k = search in
     let m : tie.After-mark = search in
-    rw (← (ap markAnswer (sym (k .k .given .1)) ∙ m .mark .ensures)) (refl, refl)
+    rw (← (ap markAnswer (sym (k .k .given .1)) ∙ m .mark .ensures))
 
 returns-2 : tie.Need-returns-2
 unfolding markAnswer
@@ -21,7 +21,7 @@ returns-2 c =
     let o : tie.After-one = search in
     let t : tie.After-enum-told = search in
     let m : tie.After-mark = search in
-    rw (← (ap markAnswer (sym (t .enum-told .given .1)) ∙ m .mark .ensures)) (o .one .ensures)
+    rw (← (ap markAnswer (sym (t .enum-told .given .1)) ∙ m .mark .ensures), o .one .ensures .0, o .one .ensures .1)
 
 returns-3 : tie.Need-returns-3
 unfolding markAnswer
@@ -29,7 +29,7 @@ returns-3 c =
     let o : tie.After-one2 = search in
     let t : tie.After-enum-told2 = search in
     let m : tie.After-mark = search in
-    rw (← (ap markAnswer (sym (t .enum-told2 .given .1)) ∙ m .mark .ensures)) (o .one2 .ensures)
+    rw (← (ap markAnswer (sym (t .enum-told2 .given .1)) ∙ m .mark .ensures), o .one2 .ensures .0, o .one2 .ensures .1)
 
 pub peeriewick-mark-spec : {M : Type 1} → statement M
 peeriewick-mark-spec =

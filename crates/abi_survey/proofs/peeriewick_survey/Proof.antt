@@ -1,4 +1,3 @@
-use mathlib.Core.Path.{refl}
 use Rattle.survey.specs.Survey.{surveyAnswer}
 use borrow.Author.Needs.{needs}
 use Rattle.abi_survey.proofs.peeriewick_survey.Statement.{statement}
@@ -13,7 +12,7 @@ unfolding surveyAnswer
 returns c =
     let k : tie.After-k = search in
     let s : tie.After-survey = search in
-    rw (← (rw (k .k .given .1) at (s .survey .ensures))) (refl, (refl, refl))
+    rw (← (rw (k .k .given .1) at (s .survey .ensures)))
 
 returns-2 : tie.Need-returns-2
 unfolding surveyAnswer
@@ -21,7 +20,7 @@ returns-2 c =
     let w : tie.After-two = search in
     let z : tie.After-z = search in
     let s : tie.After-survey = search in
-    rw (← (rw (z .z .given .1) at (s .survey .ensures))) (w .two .ensures .0, (refl, w .two .ensures .1))
+    rw (← (rw (z .z .given .1) at (s .survey .ensures)), w .two .ensures .0, w .two .ensures .1)
 
 pub peeriewick-survey-spec : {M : Type 1} → statement M
 peeriewick-survey-spec =

@@ -5,7 +5,7 @@ use mathlib.Core.Bool.{true, false}
 use Rattle.circuit.specs.Gate.{isInput, kindOf}
 use Rattle.map.specs.Map.{kindByte}
 use Rattle.kinds.proofs.Bytes.{input-kind, gate-kind}
-use Rattle.line.specs.Line.{inputText}
+use Rattle.line.specs.Inner.{inputText}
 use Rattle.line.proofs.Writing.{wrote-nothing}
 use borrow.Author.Needs.{needs}
 use Rattle.line.proofs.report.put_input.Statement.{statement}

@@ -10,7 +10,7 @@ use Rattle.line.proofs.report.put_spent.Reads as put-spent-reads
 put-found-requires : tie.Need-put-found-requires
 put-found-requires c κs =
     let s : tie.Start = search in
-    (s .pre .0 (c .before .enum-told .given .1), s .pre .1)
+    (s .pre .0 (rw (c .before .enum-told .given .1)), s .pre .1)
 
 returns : tie.Need-returns
 returns c =

@@ -5,8 +5,7 @@ use Prim.Native.Nat.{_+_, _-_, _≤_}
 use mathlib.Core.Path.{_≡_, refl}
 use native.Mathlib.Omega.{arith}
 use lib.ListN.{length}
-use Rattle.line.specs.Text.{Wrote}
-use Rattle.line.specs.Line.{rowBelow}
+use Rattle.line.specs.Inner.{Wrote, rowBelow}
 use Rattle.line.proofs.Rows.{row-none, row-next, row-whole}
 use borrow.Author.Needs.{needs}
 use Rattle.line.proofs.report.put_row.Statement.{statement}

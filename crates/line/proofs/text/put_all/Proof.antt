@@ -2,7 +2,7 @@ use Prim.Native.Nat.{_+_, _-_, _≤_}
 use mathlib.Core.Path.{_≡_, refl}
 use native.Mathlib.Omega.{arith}
 use lib.ListN.{length, take}
-use Rattle.line.specs.Text.{Wrote}
+use Rattle.line.specs.Inner.{Wrote}
 use Rattle.line.proofs.Writing.{wrote-next, wrote-whole}
 use borrow.Author.Needs.{needs}
 use Rattle.line.proofs.text.put_all.Statement.{statement}
