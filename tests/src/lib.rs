@@ -4,6 +4,7 @@ pub mod dice;
 pub mod engine;
 pub mod fixed;
 pub mod frame;
+pub mod inputs;
 pub mod maps;
 pub mod random;
 

@@ -8,22 +8,51 @@
 //!     peeriewick-tests inputs SEED N DIR  writes N random inputs of the program as
 //!                                         DIR/0, DIR/1, .. and the lines it is to
 //!                                         print as DIR/0.line, DIR/1.line, ..
+//!     peeriewick-tests reading DIR        the same for inputs that show how it reads,
+//!                                         as DIR/NAME and DIR/NAME.line
+//!     peeriewick-tests pieces FILE        writes a file in pieces, with pauses
 
-use peeriewick_tests::{engine, fixed, frame, random};
+use peeriewick_tests::{engine, fixed, frame, inputs, random};
 
-use std::fs;
-use std::io::{self, Read, Write};
+use std::fs::{self, File};
+use std::io::{self, ErrorKind, Read, Write};
+use std::os::unix::io::AsFd;
 use std::path::Path;
+use std::thread::sleep;
+use std::time::Duration;
 
-fn write_inputs(seed: u64, n: usize, folder: &Path) -> Result<(), String> {
+fn write_inputs(list: &[(String, Vec<u8>)], folder: &Path) -> Result<(), String> {
     let write = |name: String, bytes: &[u8]| {
         let path = folder.join(name);
         fs::write(&path, bytes).map_err(|e| format!("{}: {e}", path.display()))
     };
     fs::create_dir_all(folder).map_err(|e| format!("{}: {e}", folder.display()))?;
-    for (number, input) in random::program_inputs(seed, n).iter().enumerate() {
-        write(format!("{number}"), input)?;
-        write(format!("{number}.line"), format!("{}\n", engine::program(input)).as_bytes())?;
+    for (name, input) in list {
+        write(name.clone(), input)?;
+        write(format!("{name}.line"), format!("{}\n", engine::program(input)).as_bytes())?;
+    }
+    Ok(())
+}
+
+fn numbered(list: Vec<Vec<u8>>) -> Vec<(String, Vec<u8>)> {
+    list.into_iter().enumerate().map(|(number, input)| (number.to_string(), input)).collect()
+}
+
+/// Writes each piece at once. The pauses are long behind the first piece, until
+/// the reader surely waits, and before the last. A reader that has enough and
+/// goes is no error.
+fn write_in_pieces(path: &str) -> Result<(), String> {
+    let input = fs::read(path).map_err(|e| format!("{path}: {e}"))?;
+    let list = inputs::pieces(&input);
+    let failed = |e: io::Error| format!("standard output: {e}");
+    let mut out = File::from(io::stdout().as_fd().try_clone_to_owned().map_err(failed)?);
+    for (number, piece) in list.iter().enumerate() {
+        match out.write_all(piece) {
+            Err(e) if e.kind() == ErrorKind::BrokenPipe => return Ok(()),
+            written => written.map_err(failed)?,
+        }
+        let long = number == 0 || number + 2 == list.len();
+        sleep(Duration::from_millis(if long { 30 } else { 1 }));
     }
     Ok(())
 }
@@ -62,10 +91,14 @@ fn run(arguments: &[String]) -> Result<Vec<u8>, String> {
         ["random", seed, n] => Ok(frame::file(&random::random(number("SEED", seed)?, number("N", n)?))),
         ["answers"] => answers(),
         ["inputs", seed, n, folder] => {
-            write_inputs(number("SEED", seed)?, number("N", n)?, Path::new(folder))?;
-            Ok(vec![])
+            let list = random::program_inputs(number("SEED", seed)?, number("N", n)?);
+            write_inputs(&numbered(list), Path::new(folder)).map(|()| vec![])
         }
-        _ => Err(String::from("use: fixed | names | expected | random SEED N | answers | inputs SEED N DIR")),
+        ["reading", folder] => write_inputs(&inputs::inputs(), Path::new(folder)).map(|()| vec![]),
+        ["pieces", file] => write_in_pieces(file).map(|()| vec![]),
+        _ => Err(String::from(
+            "use: fixed | names | expected | random SEED N | answers | inputs SEED N DIR | reading DIR | pieces FILE",
+        )),
     }
 }
 

@@ -3,6 +3,7 @@
 use crate::engine::*;
 use crate::fixed::adder;
 use crate::frame::*;
+use crate::inputs::{inputs, pieces};
 use crate::maps::{build, configurations, maps_of};
 use crate::random::{program_inputs, random};
 use std::collections::BTreeSet;
@@ -142,6 +143,12 @@ fn satisfying(map: &[u8], n: u16) -> Vec<Vec<u8>> {
 /// "count the gates where the two differ."
 fn differing(one: &[u8], other: &[u8]) -> usize {
     one.iter().zip(other).filter(|(a, b)| a != b).count()
+}
+
+/// Inputs and gates outside the cone count too: A and B of the bench examples differ at gates 0, 1, 4 and 5.
+#[test]
+fn a_and_b_differ_at_four_gates() {
+    assert_eq!(differing(&digits("00110101"), &digits("11111001")), 4);
 }
 
 /// Every entry that can matter in a map of four gates: no front has more than
@@ -494,6 +501,46 @@ fn random_inputs_are_not_bare() {
     assert_eq!(first.iter().map(|input| input.len()).collect::<Vec<usize>>(), [0, 65_536, 65_537]);
     assert_eq!(lines[..3], ["REFUSED 0", "SPENT 16357 130856 1", "REFUSED 0"]);
     assert_eq!(program_inputs(2, 9), program_inputs(2, 60)[..9]);
+}
+
+/// "the number is 0 if the input passes 65,536 bytes", also where its first 65,536 bytes are a whole input.
+#[test]
+fn inputs_that_show_how_the_program_reads() {
+    let list = inputs();
+    let of = |name: &str| &list.iter().find(|(other, _)| other == name).expect(name).1[..];
+    assert_eq!((of("p3").len(), program(of("p3"))), (86, String::from("FOUND 1 1 101")));
+    assert_eq!(program(of("p3-and-1")), "REFUSED 0");
+    for (name, line) in [
+        ("found-011", "FOUND 16361 16361 01100"),
+        ("found-101", "FOUND 16361 16361 10100"),
+        ("spent", "SPENT 16357 130856 1"),
+        ("refused", "REFUSED 13"),
+    ] {
+        assert_eq!((of(name).len(), program(of(name)).as_str()), (65_536, line));
+        for more in [1, 1_048_576] {
+            let longer = of(&format!("{name}-and-{more}"));
+            assert_eq!(longer.len(), 65_536 + more);
+            assert_eq!(longer[..65_536], *of(name));
+            assert_eq!(program(longer), "REFUSED 0");
+        }
+    }
+    let random = list.iter().filter(|(name, _)| name.starts_with("random-")).count();
+    assert_eq!(list.len(), 14 + random);
+    assert!(random >= 3);
+}
+
+#[test]
+fn pieces_are_the_input() {
+    for (name, input) in inputs() {
+        let list = pieces(&input);
+        assert_eq!(list.concat(), input, "{name}");
+        assert!(list.iter().all(|piece| !piece.is_empty()), "{name}");
+        assert!((1..6).contains(&list[0].len()) && list[list.len() - 1].len() == 1, "{name}");
+        assert!(list.len() >= 40 && list.len() < 100, "{name}: {}", list.len());
+    }
+    assert!(pieces(&[]).is_empty());
+    assert_eq!(pieces(&[7]), [&[7][..]]);
+    assert_eq!(pieces(&[7, 8]), [&[7][..], &[8]]);
 }
 
 // ------------------------------------------------------------------ the frame

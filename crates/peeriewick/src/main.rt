@@ -1,31 +1,35 @@
 // The program: reads a map, a configuration and a tape from standard input and prints the line of the run on them.
-// It only reads and writes: what it hands to `write_all` is `line`'s, as `line_of` says.
+// It only reads and writes: what it hands to `write_all` is the line for all of standard input, as `line_of` says.
 use libc::STDIN_FILENO;
 use libc::STDOUT_FILENO;
 use line::INPUT_ROOM;
 use line::LINE_ROOM;
 ghost use mathlib.Core.Path.{_≡_};
 ghost use Prim.Native.Nat.{_≤_};
-ghost use lib.ListN.{length};
-ghost use Rattle.line.specs.Line.{lineRoom, lineOf};
+ghost use lib.ListN.{length, take};
+ghost use Rattle.line.specs.Line.{inputRoom, lineRoom, LineOfAll};
 
-// The line for an input, written into the first bytes of `out`.
-fn line_of<'a>(input: &[u8], out: &'a mut [u8]) -> &'a [u8]
+// The line for standard input, of which `buf` took the first n bytes, written into the first bytes of `out`. A byte more than an input may have
+// is needed there, and enough (`CutInput`).
+fn line_of<'a>(buf: &[u8], n: usize, out: &'a mut [u8]) -> &'a [u8]
+    requires { ⌜ (length (now buf) ≡ inputRoom) × (n ≤ length (now buf)) ⌝ }
     requires { ⌜ lineRoom ≤ length (now out) ⌝ }
-    ensures { λ r. ⌜ now r ≡ lineOf (now (input .entry)) ⌝ }
+    ensures { λ r. ⌜ LineOfAll (length (now (buf .entry))) (take n (now (buf .entry))) (now r) ⌝ }
 {
-    let n = line::line(input, out);
+    let size = line::line(&buf[..n], out);
     let all = &out[..];
-    &all[..n]
+    &all[..size]
 }
 
-fn print_line(input: &[u8]) {
+fn print_line(buf: &[u8], n: usize)
+    requires { ⌜ (length (now buf) ≡ inputRoom) × (n ≤ length (now buf)) ⌝ }
+{
     let mut out = [0u8; LINE_ROOM];
-    io::write_all(STDOUT_FILENO, line_of(input, &mut out));
+    io::write_all(STDOUT_FILENO, line_of(buf, n, &mut out));
 }
 
 fn main() {
     let mut buf = [0u8; INPUT_ROOM];
     let n = io::read_full(STDIN_FILENO, &mut buf);
-    print_line(&buf[..n]);
+    print_line(&buf, n);
 }

@@ -1,5 +1,6 @@
 //! Holds the proved engine's static library against the independent engine: every call, every lent byte afterwards, and the bytes around them.
 //!
+//!     peeriewick-library fixed             the fixed cases, and the numbers a host gets of the bench examples
 //!     peeriewick-library exhaustive        every map of up to three gates with every start through every call, and small maps that are refused
 //!     peeriewick-library random SEED N     N random calls on maps of every size and shape
 //!     peeriewick-library damaged SEED N    every number and every pair of failing tests, then N calls with random damage
@@ -17,6 +18,7 @@ mod dress;
 mod engines;
 mod exhaustive;
 mod failing;
+mod fixed;
 mod harness;
 mod lend;
 mod long;
@@ -33,6 +35,12 @@ use std::process::exit;
 
 /// What a command ends with: a line, or what differs.
 type Said = Result<String, String>;
+
+fn fixed() -> Said {
+    let mut harness = Harness::new();
+    fixed::fixed(&mut harness)?;
+    Ok(format!("fixed: {} calls", harness.calls))
+}
 
 fn exhaustive() -> Said {
     let mut harness = Harness::new();
@@ -109,7 +117,7 @@ fn number<T: std::str::FromStr>(word: &str) -> T {
 
 fn usage(message: &str) -> ! {
     eprintln!("peeriewick-library: {message}");
-    eprintln!("use: exhaustive | random SEED N | damaged SEED N | long | threads SEED N | sample SEED N | replay [CALL]");
+    eprintln!("use: fixed | exhaustive | random SEED N | damaged SEED N | long | threads SEED N | sample SEED N | replay [CALL]");
     exit(2)
 }
 
@@ -118,6 +126,7 @@ fn main() {
     let arguments: Vec<String> = std::env::args().skip(1).collect();
     let words: Vec<&str> = arguments.iter().map(|word| word.as_str()).collect();
     let said = match words[..] {
+        ["fixed"] => fixed(),
         ["exhaustive"] => exhaustive(),
         ["random", seed, n] => random(number(seed), number(n)),
         ["damaged", seed, n] => damaged(number(seed), number(n)),
