@@ -71,11 +71,7 @@ fn random_start(random: &mut Random, circuit: &Circuit) -> Vec<u8> {
     if random.once_in(2) {
         return circuit.start(&random.bits(circuit.inputs()));
     }
-    let mut values = random.bits(circuit.gates.len());
-    for &(gate, value) in &circuit.codes {
-        values[gate as usize] = value;
-    }
-    values
+    circuit.with_codes(random.bits(circuit.gates.len()))
 }
 
 fn random_tape(random: &mut Random) -> Vec<u8> {

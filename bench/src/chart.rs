@@ -1,117 +1,55 @@
-//! The rows as a chart: the ratio of each, and the time per move by size.
+//! The measurement as a chart: how the ratios lie by size and by family, and the time per move by size.
 
 use crate::engine::ENGINES;
 use crate::inputs::{Tape, SIZES, TAPES};
-use crate::rows::{times_of, Row, Work};
-use crate::svg::{Anchor, Svg, FAINT, INK};
+use crate::ratios::Ratios;
+use crate::rows::{by_family, by_size, median_time, Row, Spread, Work};
+use crate::svg::{Anchor, Svg, FAINT, INK, MARGIN};
 use crate::table::grouped;
 
-const WIDTH: f64 = 880.0;
-const HEIGHT: f64 = 920.0;
-const MARGIN: f64 = 30.0;
+const WIDTH: f64 = 960.0;
 const COLOURS: [&str; 2] = ["#b45309", "#0b6e99"];
-const BAR_COLOUR: &str = "#8cc3dc";
 
-pub fn chart(rows: &[Row], method: &str) -> String {
-    let mut svg = Svg::new(WIDTH, HEIGHT);
-    svg.rect(0.0, 0.0, WIDTH, HEIGHT, "#ffffff");
+pub fn chart(rows: &[Row], about: &[String]) -> String {
+    let panels = [("By size, over all families and seeds", by_size(rows)), ("By family, over all sizes and seeds", by_family(rows))];
+    let ratios = Ratios::new(panels.iter().flat_map(|(_, summaries)| summaries));
+    let mut svg = Svg::new(WIDTH);
     svg.bold(MARGIN, 38.0, Anchor::Start, 20, "Peeriewick beside a plain engine in C");
-    svg.text(MARGIN, 60.0, Anchor::Start, 13, method);
-    Ratios::new(rows).draw(&mut svg, rows);
-    Moves::new(rows).draw(&mut svg, rows);
-    svg.finish()
+    let mut y = 60.0;
+    for line in about {
+        svg.text(MARGIN, y, Anchor::Start, 12, line);
+        y += 18.0;
+    }
+    y = ratios.draw_key(&mut svg, y + 18.0);
+    for (title, summaries) in &panels {
+        y = ratios.draw(&mut svg, y + 26.0, title, summaries);
+    }
+    let moves = Moves::new(rows, y + 60.0);
+    moves.draw(&mut svg, rows);
+    svg.finish(moves.bottom + 56.0)
 }
 
-/// The upper panel.
-struct Ratios {
-    end: f64,
-    step: f64,
-}
-
-impl Ratios {
-    const LEFT: f64 = 250.0;
-    const RIGHT: f64 = 790.0;
-    const TOP: f64 = 140.0;
-    const BAR: f64 = 19.0;
-    const GAP: f64 = 9.0;
-    const TARGET: f64 = 1.1;
-
-    fn new(rows: &[Row]) -> Ratios {
-        let most = rows.iter().map(Row::ratio).fold(1.25, f64::max);
-        let step = [0.25, 0.5, 1.0, 2.0, 5.0, 10.0].into_iter().find(|step| most / step <= 8.0).unwrap_or(100.0);
-        Ratios { end: (most / step).ceil() * step, step }
-    }
-
-    fn x(&self, ratio: f64) -> f64 {
-        Self::LEFT + (Self::RIGHT - Self::LEFT) * ratio / self.end
-    }
-
-    fn bar_top(place: usize) -> f64 {
-        Self::TOP + Self::BAR * place as f64 + Self::GAP * (place / SIZES.len()) as f64
-    }
-
-    fn draw(&self, svg: &mut Svg, rows: &[Row]) {
-        svg.bold(MARGIN, 98.0, Anchor::Start, 15, "Time of Peeriewick / time of plain C (shorter is better)");
-        let bottom = Self::bar_top(rows.len() - 1) + Self::BAR + 4.0;
-        self.draw_axis(svg, bottom);
-        for (place, row) in rows.iter().enumerate() {
-            self.draw_bar(svg, place, row);
-        }
-        self.draw_limits(svg, bottom);
-    }
-
-    fn draw_axis(&self, svg: &mut Svg, bottom: f64) {
-        let ticks = (self.end / self.step).round() as usize;
-        for tick in 0..=ticks {
-            let ratio = self.step * tick as f64;
-            let x = self.x(ratio);
-            svg.line((x, Self::TOP - 6.0), (x, bottom), FAINT, 1.0, false);
-            svg.text(x, bottom + 17.0, Anchor::Middle, 12, &format!("{}", ratio));
-        }
-        svg.line((Self::LEFT, bottom), (Self::RIGHT, bottom), INK, 1.0, false);
-        svg.text((Self::LEFT + Self::RIGHT) / 2.0, bottom + 36.0, Anchor::Middle, 13, "ratio of times");
-    }
-
-    fn draw_bar(&self, svg: &mut Svg, place: usize, row: &Row) {
-        let top = Self::bar_top(place);
-        if place % SIZES.len() == 0 {
-            svg.bold(MARGIN, top + 13.0, Anchor::Start, 13, row.work.name());
-        }
-        svg.text(Self::LEFT - 8.0, top + 13.0, Anchor::End, 12, &format!("{} gates", grouped(row.gates as f64)));
-        svg.rect(Self::LEFT, top + 2.0, self.x(row.ratio()) - Self::LEFT, Self::BAR - 4.0, BAR_COLOUR);
-        svg.text(Self::RIGHT + 50.0, top + 13.0, Anchor::End, 13, &format!("{:.2}", row.ratio()));
-    }
-
-    /// The lines of equal times and of the target. Their names stand to either side, as the lines are close.
-    fn draw_limits(&self, svg: &mut Svg, bottom: f64) {
-        let (equal, target) = (self.x(1.0), self.x(Self::TARGET));
-        svg.line((equal, Self::TOP - 12.0), (equal, bottom), INK, 1.5, false);
-        svg.line((target, Self::TOP - 12.0), (target, bottom), "#c81e1e", 1.5, true);
-        svg.text(equal - 5.0, Self::TOP - 11.0, Anchor::End, 12, "equal: 1.0");
-        svg.text(target + 5.0, Self::TOP - 11.0, Anchor::Start, 12, "target: 1.1");
-    }
-}
-
-/// The lower panel. Both axes are logarithmic.
+/// Medians of the time per move. Both axes are logarithmic.
 struct Moves {
     least: f64,
     most: f64,
+    top: f64,
+    bottom: f64,
 }
 
 impl Moves {
     const LEFT: f64 = 110.0;
-    const RIGHT: f64 = 610.0;
-    const TOP: f64 = 575.0;
-    const BOTTOM: f64 = 855.0;
-    const LEGEND: f64 = 650.0;
+    const RIGHT: f64 = 660.0;
+    const HEIGHT: f64 = 280.0;
+    const LEGEND: f64 = 700.0;
 
     /// The axis of times ends at the marks next to the least and the most.
-    fn new(rows: &[Row]) -> Moves {
-        let times = || rows.iter().filter(|row| matches!(row.work, Work::Run(_))).flat_map(|row| row.times);
-        let (least, most) = (times().fold(f64::INFINITY, f64::min), times().fold(0.0, f64::max));
+    fn new(rows: &[Row], top: f64) -> Moves {
+        let of_work = |work| SIZES.map(|gates| [0, 1].map(|which| median_time(rows, work, gates, which)));
+        let Spread { least, most, .. } = Spread::of(TAPES.map(Work::Run).map(of_work).into_iter().flatten().flatten());
         let below = ticks().filter(|&tick| tick <= least).fold(1.0, f64::max);
         let above = ticks().filter(|&tick| tick >= most).fold(1e9, f64::min);
-        Moves { least: below, most: above }
+        Moves { least: below, most: above, top, bottom: top + Self::HEIGHT }
     }
 
     fn x(gates: usize) -> f64 {
@@ -120,18 +58,17 @@ impl Moves {
     }
 
     fn y(&self, time: f64) -> f64 {
-        Self::BOTTOM - (Self::BOTTOM - Self::TOP) * (time / self.least).ln() / (self.most / self.least).ln()
+        self.bottom - (self.bottom - self.top) * (time / self.least).ln() / (self.most / self.least).ln()
     }
 
     fn draw(&self, svg: &mut Svg, rows: &[Row]) {
-        svg.bold(MARGIN, 548.0, Anchor::Start, 15, "Time per move of a run (both axes logarithmic)");
+        svg.bold(MARGIN, self.top - 22.0, Anchor::Start, 15, "Time per move of a run, median over all families and seeds (both axes logarithmic)");
         self.draw_axes(svg);
         for (place, tape) in TAPES.into_iter().enumerate() {
-            let times = times_of(rows, Work::Run(tape));
             for (which, engine) in ENGINES.iter().enumerate() {
-                let points: Vec<(f64, f64)> = SIZES.iter().zip(&times).map(|(&gates, times)| (Self::x(gates), self.y(times[which]))).collect();
-                draw_series(svg, &points, COLOURS[which], tape);
-                let (x, y) = (Self::LEGEND, Self::TOP + 20.0 + 26.0 * (2 * place + which) as f64);
+                let point = |gates| (Self::x(gates), self.y(median_time(rows, Work::Run(tape), gates, which)));
+                draw_series(svg, &SIZES.map(point), COLOURS[which], tape);
+                let (x, y) = (Self::LEGEND, self.top + 20.0 + 26.0 * (2 * place + which) as f64);
                 draw_series(svg, &[(x, y), (x + 34.0, y)], COLOURS[which], tape);
                 svg.text(x + 44.0, y + 4.0, Anchor::Start, 12, &format!("{}, {}", engine.name, tape_name(tape)));
             }
@@ -146,13 +83,13 @@ impl Moves {
         }
         for gates in SIZES {
             let x = Self::x(gates);
-            svg.line((x, Self::TOP), (x, Self::BOTTOM), FAINT, 1.0, false);
-            svg.text(x, Self::BOTTOM + 18.0, Anchor::Middle, 12, &grouped(gates as f64));
+            svg.line((x, self.top), (x, self.bottom), FAINT, 1.0, false);
+            svg.text(x, self.bottom + 18.0, Anchor::Middle, 12, &grouped(gates as f64));
         }
-        svg.line((Self::LEFT, Self::TOP), (Self::LEFT, Self::BOTTOM), INK, 1.0, false);
-        svg.line((Self::LEFT, Self::BOTTOM), (Self::RIGHT, Self::BOTTOM), INK, 1.0, false);
-        svg.text((Self::LEFT + Self::RIGHT) / 2.0, Self::BOTTOM + 40.0, Anchor::Middle, 13, "gates of the map");
-        svg.upward(44.0, (Self::TOP + Self::BOTTOM) / 2.0, 13, "time per move");
+        svg.line((Self::LEFT, self.top), (Self::LEFT, self.bottom), INK, 1.0, false);
+        svg.line((Self::LEFT, self.bottom), (Self::RIGHT, self.bottom), INK, 1.0, false);
+        svg.text((Self::LEFT + Self::RIGHT) / 2.0, self.bottom + 40.0, Anchor::Middle, 13, "gates of the map");
+        svg.upward(44.0, (self.top + self.bottom) / 2.0, 13, "time per move");
     }
 }
 

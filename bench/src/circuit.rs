@@ -30,10 +30,15 @@ impl Gate {
         let fan_in = match kind {
             NOT => 1,
             XOR => 2,
-            _ => random_fan_in(random).min(below.len()),
+            _ => random_fan_in(random),
         };
+        Gate::over(random, kind, fan_in, below, pick)
+    }
+
+    /// A gate of this kind over so many of the given gates, or over all where there are fewer.
+    pub fn over(random: &mut Random, kind: u8, fan_in: usize, below: &[u16], pick: impl Fn(&mut Random, usize) -> usize) -> Gate {
         let mut places = Vec::new();
-        while places.len() < fan_in {
+        while places.len() < fan_in.min(below.len()) {
             let place = pick(random, below.len());
             if !places.contains(&place) {
                 places.push(place);
@@ -81,7 +86,11 @@ impl Circuit {
 
     /// A configuration that keeps the codes and obeys all gates but the coded ones.
     pub fn start(&self, row: &[u8]) -> Vec<u8> {
-        let mut values = self.evaluate(row);
+        self.with_codes(self.evaluate(row))
+    }
+
+    /// These values with the coded gates set to their codes.
+    pub fn with_codes(&self, mut values: Vec<u8>) -> Vec<u8> {
         for &(gate, value) in &self.codes {
             values[gate as usize] = value;
         }

@@ -1,20 +1,21 @@
-//! The inputs that are measured: random accepted maps, each with a row, a start that keeps the codes, and two tapes.
+//! The inputs that are measured: accepted maps of each family and size, each with a row and a start that keeps the codes, and the first of them with
+//! tapes.
 
-use crate::circuit::{Circuit, Gate, AND, INPUT, NOT};
+use crate::families::Family;
 use crate::lent::{Buffer, Lent};
 use crate::random::Random;
 
 pub const SIZES: [usize; 3] = [64, 256, 1024];
 
-/// The maps of each size have this many gates together. That is more than a processor learns the branches of, so that every call meets its map anew. (Of an
-/// eighth of it a processor learns some, and how many depends on where code stands: rows then differ by a tenth from run to run.)
-pub const GATES_PER_SIZE: usize = 131_072;
+/// The maps of each family and size have this many gates together. That is more than a processor learns the branches of, so that every call meets its map
+/// anew. (Of an eighth of it a processor learns some, and how many depends on where code stands: rows then differ by a tenth from run to run.)
+pub const GATES_PER_GROUP: usize = 131_072;
 
 /// So many of them are run.
 pub const RUN_MAPS: usize = 5;
 
-/// Most children stand among this many gates next below, so that depth grows with size.
-const NEAR: usize = 32;
+/// What part of a tape is done where instructions are counted.
+const SAMPLE_PART: usize = 8;
 
 #[derive(Clone, Copy, PartialEq, Debug)]
 pub enum Tape {
@@ -29,15 +30,16 @@ pub struct Input {
     pub map: Vec<u8>,
     pub row: Vec<u8>,
     pub start: Vec<u8>,
+    /// Empty where the map isn't run.
     tapes: [Vec<u8>; 2],
 }
 
 impl Input {
-    fn random(random: &mut Random, gates: usize) -> Input {
-        let circuit = random_circuit(random, gates);
+    fn random(random: &mut Random, family: Family, gates: usize, is_run: bool) -> Input {
+        let circuit = family.contradictory(random, gates);
         let row = random.bits(circuit.inputs());
         let start = circuit.start(&row);
-        let tapes = TAPES.map(|tape| random_tape(random, tape, gates));
+        let tapes = TAPES.map(|tape| if is_run { random_tape(random, tape, gates) } else { Vec::new() });
         Input { gates, map: circuit.bytes(), row, start, tapes }
     }
 
@@ -64,51 +66,25 @@ impl Input {
     }
 }
 
-/// All inputs, by size.
-pub fn all(seed: u64) -> Vec<Vec<Input>> {
-    let mut random = Random::new(seed);
-    let mut of_size = |gates: usize| (0..GATES_PER_SIZE / gates).map(|_| Input::random(&mut random, gates)).collect();
-    SIZES.iter().map(|&gates| of_size(gates)).collect()
+/// The maps of a family and size.
+pub fn group(seed: u64, family: Family, gates: usize) -> Vec<Input> {
+    (0..GATES_PER_GROUP / gates).map(|place| input(seed, family, gates, place)).collect()
 }
 
-/// An eighth are inputs. One gate in 16 is kept from being a child. Each 32 gates end with an AND of some gate and its NOT, coded 1: no state
-/// shows that, so no run ends Found, and the search goes on all over the map.
-fn random_circuit(random: &mut Random, size: usize) -> Circuit {
-    let mut gates: Vec<Gate> = (0..size / 8).map(|_| Gate::input()).collect();
-    let mut usable: Vec<u16> = (0..gates.len() as u16).collect();
-    let mut contradictions = Vec::new();
-    while gates.len() < size {
-        let next = gates.len() as u16;
-        if next % 32 == 30 {
-            let inner = usable[size / 8 + random.below(usable.len() - size / 8)];
-            gates.push(Gate { kind: NOT, children: vec![inner] });
-            gates.push(Gate { kind: AND, children: vec![inner, next] });
-            contradictions.push(next + 1);
-            continue;
-        }
-        gates.push(Gate::random(random, &usable, pick_near));
-        if !random.once_in(16) {
-            usable.push(next);
-        }
+/// The first of these, with the beginnings of their tapes: what is counted, as counting takes 50 times as long as running.
+pub fn sample(seed: u64, family: Family, gates: usize) -> Vec<Input> {
+    let mut inputs: Vec<Input> = (0..RUN_MAPS).map(|place| input(seed, family, gates, place)).collect();
+    for tape in inputs.iter_mut().flat_map(|input| &mut input.tapes) {
+        tape.truncate(tape.len() / SAMPLE_PART);
     }
-    let mut circuit = Circuit { gates, codes: Vec::new() };
-    circuit.codes = codes(random, &circuit, &contradictions);
-    circuit
+    inputs
 }
 
-fn pick_near(random: &mut Random, len: usize) -> usize {
-    if random.once_in(4) {
-        return random.below(len);
-    }
-    len - 1 - random.below(len.min(NEAR))
-}
-
-/// Every gate without a parent is coded, with the value that one random row gives it, so that some state shows all codes but the contradictions.
-fn codes(random: &mut Random, circuit: &Circuit, contradictions: &[u16]) -> Vec<(u16, u8)> {
-    let values = circuit.evaluate(&random.bits(circuit.inputs()));
-    let has_parent = circuit.has_parent();
-    let coded = (0..circuit.gates.len()).filter(|&gate| circuit.gates[gate].kind != INPUT && !has_parent[gate]);
-    coded.map(|gate| (gate as u16, if contradictions.contains(&(gate as u16)) { 1 } else { values[gate] })).collect()
+/// Each has random numbers of its own, so that it is the same whatever else is made.
+fn input(seed: u64, family: Family, gates: usize, place: usize) -> Input {
+    let number = (family as u64) << 32 | (gates as u64) << 16 | place as u64;
+    let mut random = Random::new(Random::new(seed).word().wrapping_add(Random::new(number).word()));
+    Input::random(&mut random, family, gates, place < RUN_MAPS)
 }
 
 /// Long enough that the tests before the first entry are a small part of a run, and short enough for many rounds.

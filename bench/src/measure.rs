@@ -3,19 +3,27 @@
 use std::time::{Duration, Instant};
 
 use crate::engine::{Engine, ENGINES};
-use crate::inputs::{Input, Tape, RUN_MAPS};
+use crate::families::FAMILIES;
+use crate::inputs::{self, Input, Tape, RUN_MAPS, SIZES};
 use crate::lent::{Call, Lent};
-use crate::rows::{Times, Work, WORKS};
+use crate::rows::{Pair, Work, WORKS};
 
 /// How often each engine does each slice.
-pub const ROUNDS: usize = 15;
+pub const ROUNDS: usize = 11;
 
-/// Work by work, and size by size in each.
-pub fn measure(inputs: &[Vec<Input>]) -> Vec<Times> {
-    WORKS.iter().flat_map(|&work| inputs.iter().map(move |group| measure_group(work, group))).collect()
+/// The times of a seed's cells, in their order.
+pub fn measure(seed: u64) -> Vec<Pair> {
+    let mut times = Vec::new();
+    for family in FAMILIES {
+        for gates in SIZES {
+            let group = inputs::group(seed, family, gates);
+            times.extend(WORKS.map(|work| measure_group(work, &group)));
+        }
+    }
+    times
 }
 
-fn measure_group(work: Work, group: &[Input]) -> Times {
+fn measure_group(work: Work, group: &[Input]) -> Pair {
     match work {
         Work::Run(tape) => per_move(&group[..RUN_MAPS], tape),
         Work::Check => per_call(group, Call::Check),
@@ -25,7 +33,7 @@ fn measure_group(work: Work, group: &[Input]) -> Times {
 }
 
 /// One slice of time is one run of one map. The least times are added up over the maps.
-fn per_move(group: &[Input], tape: Tape) -> Times {
+fn per_move(group: &[Input], tape: Tape) -> Pair {
     let mut total = [0.0; 2];
     for input in group {
         let mut lent = input.lent(tape);
@@ -45,7 +53,7 @@ fn time_run(engine: &Engine, input: &Input, lent: &mut Lent) -> Duration {
 }
 
 /// One slice of time is a call on each map in turn. These calls change nothing that they read, so nothing is put back.
-fn per_call(group: &[Input], call: Call) -> Times {
+fn per_call(group: &[Input], call: Call) -> Pair {
     let mut all: Vec<Lent> = group.iter().map(|input| input.lent(Tape::DownUp)).collect();
     let least = least_times(|engine| {
         let begin = Instant::now();
@@ -59,7 +67,7 @@ fn per_call(group: &[Input], call: Call) -> Times {
 
 /// The least nanoseconds of each engine over all rounds: the work is the same each time, and whatever else runs meanwhile only adds to it. The
 /// engines take turns, and the one that goes first changes from round to round.
-fn least_times(mut slice: impl FnMut(&Engine) -> Duration) -> Times {
+fn least_times(mut slice: impl FnMut(&Engine) -> Duration) -> Pair {
     let mut least = [f64::INFINITY; 2];
     for round in 0..ROUNDS {
         for turn in 0..2 {

@@ -2,7 +2,8 @@
 
 use std::process::Command;
 
-use crate::rows::Times;
+use crate::measure::measure;
+use crate::rows::Pair;
 
 pub const DRIVERS: [&str; 4] = [
     "target/placement-16/release/peeriewick-bench",
@@ -11,16 +12,17 @@ pub const DRIVERS: [&str; 4] = [
     "target/placement-64/release/peeriewick-bench",
 ];
 
-/// What a driver prints when it is asked for its times: those of a row on each line.
-pub fn print(times: &[Times]) {
-    for [plain, proved] in times {
+/// What a driver does when it is asked for its times: it prints those of a cell on each line.
+pub fn print(seed: u64) -> Result<(), String> {
+    for [plain, proved] in measure(seed) {
         println!("{} {}", plain, proved);
     }
+    Ok(())
 }
 
 /// The average times of all drivers.
-pub fn average(seed: u64) -> Result<Vec<Times>, String> {
-    let mut total: Vec<Times> = Vec::new();
+pub fn average(seed: u64) -> Result<Vec<Pair>, String> {
+    let mut total: Vec<Pair> = Vec::new();
     for driver in DRIVERS {
         let times = ask(driver, seed).ok_or_else(|| format!("{} gives no times", driver))?;
         total.resize(times.len(), [0.0; 2]);
@@ -31,12 +33,12 @@ pub fn average(seed: u64) -> Result<Vec<Times>, String> {
     Ok(total.into_iter().map(|sum| sum.map(|time| time / DRIVERS.len() as f64)).collect())
 }
 
-fn ask(driver: &str, seed: u64) -> Option<Vec<Times>> {
+fn ask(driver: &str, seed: u64) -> Option<Vec<Pair>> {
     let output = Command::new(driver).args(["times", &seed.to_string()]).output().ok()?;
     String::from_utf8(output.stdout).ok()?.lines().map(times_in).collect()
 }
 
-fn times_in(line: &str) -> Option<Times> {
+fn times_in(line: &str) -> Option<Pair> {
     let (plain, proved) = line.split_once(' ')?;
     Some([plain.parse().ok()?, proved.parse().ok()?])
 }

@@ -3,10 +3,12 @@
 pub const INK: &str = "#1f2937";
 pub const FAINT: &str = "#e5e7eb";
 
+/// Where text begins.
+pub const MARGIN: f64 = 30.0;
+
 pub struct Svg {
     body: String,
     width: f64,
-    height: f64,
 }
 
 pub enum Anchor {
@@ -16,8 +18,8 @@ pub enum Anchor {
 }
 
 impl Svg {
-    pub fn new(width: f64, height: f64) -> Svg {
-        Svg { body: String::new(), width, height }
+    pub fn new(width: f64) -> Svg {
+        Svg { body: String::new(), width }
     }
 
     pub fn rect(&mut self, x: f64, y: f64, width: f64, height: f64, fill: &str) {
@@ -48,10 +50,12 @@ impl Svg {
         self.add(text_element(x, y, Anchor::Middle, &rest, text));
     }
 
-    pub fn finish(self) -> String {
-        let size = format!(r#"width="{0}" height="{1}" viewBox="0 0 {0} {1}""#, self.width, self.height);
+    /// On white ground, so high.
+    pub fn finish(self, height: f64) -> String {
+        let size = format!(r#"width="{0}" height="{1:.0}" viewBox="0 0 {0} {1:.0}""#, self.width, height);
         let font = r#"font-family="Helvetica, Arial, 'DejaVu Sans', sans-serif""#;
-        format!("<svg xmlns=\"http://www.w3.org/2000/svg\" {} {}>\n{}</svg>\n", size, font, self.body)
+        let ground = format!(r##"<rect width="{}" height="{:.0}" fill="#ffffff"/>"##, self.width, height);
+        format!("<svg xmlns=\"http://www.w3.org/2000/svg\" {} {}>\n{}\n{}</svg>\n", size, font, ground, self.body)
     }
 
     fn add(&mut self, element: String) {

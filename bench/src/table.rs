@@ -1,43 +1,61 @@
 //! The rows as text.
 
 use crate::engine::ENGINES;
-use crate::inputs::{GATES_PER_SIZE, RUN_MAPS, TAPES};
-use crate::rows::{times_of, Row, Work};
+use crate::inputs::{SIZES, TAPES};
+use crate::rows::{by_family, by_size, cells, median_time, ratio, Pair, Row, Spread, Summary, Work, WORKS};
 
 pub fn print(rows: &[Row]) {
-    println!(
-        "Runs: time per move over {} maps of each size. Others: time per call over maps of {} gates in all.\n",
-        RUN_MAPS,
-        grouped(GATES_PER_SIZE as f64)
-    );
+    println!("\nPeeriewick's number over plain C's: the median, and the least and the most of all that a line takes together.\n");
+    print_summaries("by size, over all families and seeds", &by_size(rows));
+    print_summaries("by family, over all sizes and seeds", &by_family(rows));
     print_times(rows);
-    println!();
     print_growth(rows);
 }
 
-fn print_times(rows: &[Row]) {
-    let [plain, proved] = ENGINES.map(|engine| engine.name);
-    println!("{:34}{:>12}{:>13}{:>8}{:>26}", "", plain, proved, "ratio", "moves per second");
-    println!("{:67}{:>13}{:>13}", "", plain, proved);
-    for row in rows {
-        let head = format!("{:18}{:>10} gates", row.work.name(), grouped(row.gates as f64));
-        let [plain, proved] = row.times.map(|time| format!("{} ns", grouped(time)));
-        let rates = match row.work {
-            Work::Run(_) => row.times.map(|time| grouped(1e9 / time)),
-            _ => [String::new(), String::new()],
-        };
-        let line = format!("{}{:>12}{:>13}{:>8.2}{:>13}{:>13}", head, plain, proved, row.ratio(), rates[0], rates[1]);
-        println!("{}", line.trim_end());
+fn print_summaries(title: &str, summaries: &[Summary]) {
+    println!("{:40}{:>24}{:>24}", title, "times", "instructions");
+    for summary in summaries {
+        let [times, counts] = [summary.times, summary.counts].map(spread);
+        println!("{:26}{:14}{:>24}{:>24}", summary.work.name(), summary.name, times, counts);
     }
+    println!();
+}
+
+pub fn spread(spread: Spread) -> String {
+    format!("{:.2} ({:.2} to {:.2})", spread.median, spread.least, spread.most)
+}
+
+/// The median over all families and seeds.
+fn print_times(rows: &[Row]) {
+    println!("{:40}{:>24}{:>24}", "median times, per move or call", ENGINES[0].name, ENGINES[1].name);
+    for work in WORKS {
+        for gates in SIZES {
+            let times = [0, 1].map(|which| format!("{} ns", grouped(median_time(rows, work, gates, which))));
+            println!("{:26}{:14}{:>24}{:>24}", work.name(), format!("{} gates", grouped(gates as f64)), times[0], times[1]);
+        }
+    }
+    println!();
 }
 
 /// How many times longer a move takes on a map of four times the gates.
 fn print_growth(rows: &[Row]) {
-    println!("{:36}{:>13}{:>16}", "Growth of the time per move", "64 to 256", "256 to 1,024");
+    println!("{:40}{:>24}{:>24}", "growth of the median time per move", "64 to 256 gates", "256 to 1,024 gates");
     for work in TAPES.map(Work::Run) {
         for (which, engine) in ENGINES.iter().enumerate() {
-            let times: Vec<f64> = times_of(rows, work).iter().map(|times| times[which]).collect();
-            println!("{:24}{:12}{:>13.2}{:>16.2}", work.name(), engine.name, times[1] / times[0], times[2] / times[1]);
+            let times = SIZES.map(|gates| median_time(rows, work, gates, which));
+            println!("{:26}{:14}{:>24.2}{:>24.2}", work.name(), engine.name, times[1] / times[0], times[2] / times[1]);
+        }
+    }
+}
+
+/// The instructions of a seed, cell by cell.
+pub fn print_counts(counts: &[Pair]) {
+    println!("{:18}{:10}{:>12}{:>14}{:>14}{:>8}", "", "", "", ENGINES[0].name, ENGINES[1].name, "ratio");
+    for work in WORKS {
+        for (cell, &pair) in cells().iter().zip(counts).filter(|(cell, _)| cell.work == work) {
+            let [plain, proved] = pair.map(grouped);
+            let gates = format!("{} gates", grouped(cell.gates as f64));
+            println!("{:18}{:10}{:>12}{:>14}{:>14}{:>8.2}", work.name(), cell.family.name(), gates, plain, proved, ratio(pair));
         }
     }
 }

@@ -9,9 +9,9 @@ use Rattle.search.specs.Run.{runTests, RunEffect, runAnswer, runEnded, runBy, r
 use Rattle.circuit.specs.Run.{EndingValues}
 use Rattle.search.proofs.Endings.{run-ends}
 use Rattle.abi_state.proofs.Zero.{zero-of}
-use Rattle.abi_search.specs.Numbers.{ZeroIsAccepted}
+use Rattle.abi_search.specs.Numbers.{SearchZero}
 
-pub zero-is-accepted : ZeroIsAccepted
+pub zero-is-accepted : SearchZero
 unfolding moveEffect moveBy runEffect runBy runEnded runAnswer
 zero-is-accepted = record {
   move-zero = λ m s entry work. zero-of (λ (r : MoveEffect). r .accepted) (λ r. r .number) (firstFailed (mapTests m ++ moveTests m s entry work)) _ _ refl refl refl refl;

@@ -4,7 +4,7 @@ use mathlib.Core.Path.{_≡_, refl, ap}
 use mathlib.Core.List.{List, [], _∷_}
 use native.Mathlib.Omega.{arith}
 use lib.ListN.{length, getD, set}
-use Rattle.abi_state.specs.Numbers.{placed, Places, PlacedIs}
+use Rattle.abi_state.specs.Numbers.{placed, PlacedMeans, PlacedIs}
 
 -- past the end nothing is set
 pub set-past : (ns : List ℕ) (i x : ℕ) → length ns ≤ i → ns ≡ set ns i x

@@ -9,7 +9,7 @@ use borrow.Author.Tests.{eqb-false}
 use Rattle.folds.proofs.Tests.{which}
 use Rattle.map.specs.Check.{firstFailed, mapTests, verdict, CheckEffect, checkEffect}
 use Rattle.state.specs.State.{rowTests, configurationTests, EvaluateEffect, evaluateBy, evaluateEffect, MarkEffect, markBy, markEffect}
-use Rattle.abi_state.specs.Numbers.{ZeroIsAccepted}
+use Rattle.abi_state.specs.Numbers.{StateZero}
 
 -- an answer that is r where no test fails, and t where test n does
 pub zero-of : {R : Type 0} (accepted : R → Bool) (number : R → ℕ) (n : ℕ) (r t : R) → accepted r ≡ true → number r ≡ 0 → accepted t ≡ false → number t ≡ n
@@ -19,7 +19,7 @@ zero-of accepted number n r t a z b k = elim (which (eqb n 0)) [
   | inr q ↦ rw (q, b, k) (λ e. absurd (eqb-false n 0 q e), λ e. absurd (false≢true e))
 ]
 
-pub zero-is-accepted : ZeroIsAccepted
+pub zero-is-accepted : StateZero
 unfolding checkEffect evaluateEffect evaluateBy markEffect markBy
 zero-is-accepted = record {
   check-zero = λ m. zero-of (λ (r : CheckEffect). r .accepted) (λ r. r .number) (verdict m) _ _ refl refl refl refl;

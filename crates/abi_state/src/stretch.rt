@@ -5,7 +5,7 @@ use map::decode;
 ghost use mathlib.Core.Path.{_≡_};
 ghost use Rattle.map.specs.Check.{verdict};
 ghost use Rattle.map.specs.Inner.{Counted};
-ghost use Rattle.map.specs.Children.{stretchAt, stretchLength};
+ghost use Rattle.map.specs.Children.{stretchPlace, stretchLength};
 
 // A part of the map: where it starts, and how many bytes it has.
 pub struct Part {
@@ -16,7 +16,7 @@ pub struct Part {
 // Of an accepted map.
 fn within(map: &[u8], counts: Counts, gate: usize) -> Part
     requires { ⌜ (verdict (now map) ≡ 0) × Counted (now map) counts ⌝ }
-    ensures { λ r. ⌜ (r .at ≡ stretchAt (now (map .entry)) gate) × (r .size ≡ stretchLength (now (map .entry)) gate) ⌝ }
+    ensures { λ r. ⌜ (r .at ≡ stretchPlace (now (map .entry)) gate) × (r .size ≡ stretchLength (now (map .entry)) gate) ⌝ }
 {
     if counts.gates <= gate {
         return Part { at: 0, size: 0 };
@@ -30,7 +30,7 @@ fn within(map: &[u8], counts: Counts, gate: usize) -> Part
 }
 
 pub fn of(map: &[u8], gate: usize) -> Part
-    ensures { λ r. ⌜ (r .at ≡ stretchAt (now (map .entry)) gate) × (r .size ≡ stretchLength (now (map .entry)) gate) ⌝ }
+    ensures { λ r. ⌜ (r .at ≡ stretchPlace (now (map .entry)) gate) × (r .size ≡ stretchLength (now (map .entry)) gate) ⌝ }
 {
     match map::check(map) {
         Checked::Refused(_) => Part { at: 0, size: 0 },

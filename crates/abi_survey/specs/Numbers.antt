@@ -4,12 +4,12 @@ use mathlib.Core.Path.{_≡_}
 use mathlib.Core.Logic.{_↔_}
 use mathlib.Core.Bool.{true}
 use mathlib.Core.List.{List, [], _∷_}
-use Rattle.abi_state.specs.Numbers.{numbered, HostEffect, hostAnswer}
+use Rattle.abi_state.specs.Numbers.{numbersAfter, HostEffect, hostAnswer}
 use Rattle.survey.specs.Survey.{SurveyEffect, surveyEffect}
 
 -- "returns the sizes of front and interest set"
 abbrev pub surveyForHost : SurveyEffect → List ℕ → HostEffect
-surveyForHost r ns = hostAnswer (r .number) (r .out ∷ []) (numbered (r .accepted) (r .front ∷ r .interest ∷ []) ns)
+surveyForHost r ns = hostAnswer (r .number) (r .out ∷ []) (numbersAfter (r .accepted) (r .front ∷ r .interest ∷ []) ns)
 
 -- it returns 0 exactly where it is accepted
 abbrev pub SurveyZero : Type 0

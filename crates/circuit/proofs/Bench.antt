@@ -6,11 +6,11 @@ use Rattle.circuit.specs.Circuit.{justified}
 use Rattle.circuit.specs.Evaluate.{inputsBefore, values, evaluate, mark, differ}
 use Rattle.circuit.specs.Survey.{spread, reasons, cone, inFront, front, interest, survey, frontSize, interestSize}
 use Rattle.circuit.specs.Run.{drawn, downOptions, optionAt, greedyOptions, chosen, entryTurns, run, answer}
-use Rattle.circuit.specs.Bench.{adder, clash, corner, nand, gap, nots, Examples}
+use Rattle.circuit.specs.Bench.{adder, circuitP9, circuitP11, nand, gap, nots, Examples}
 
 -- every definition that the examples compute with, under one name
 opened : ℕ
-unfolding _and_ _or_ allBelow descend justified inputsBefore values evaluate mark differ spread reasons cone inFront front interest survey frontSize interestSize drawn downOptions optionAt greedyOptions chosen entryTurns run answer adder clash corner nand gap nots
+unfolding _and_ _or_ allBelow descend justified inputsBefore values evaluate mark differ spread reasons cone inFront front interest survey frontSize interestSize drawn downOptions optionAt greedyOptions chosen entryTurns run answer adder circuitP9 circuitP11 nand gap nots
 opened = 0
 
 pub examples : Examples

@@ -11,10 +11,10 @@ use Rattle.circuit.specs.Tools.{upTo, isEmpty}
 use Rattle.circuit.specs.Gate.{isInput, relevant}
 use Rattle.circuit.specs.Circuit.{Circuit, coded, WellFormed, on, given, justified}
 use Rattle.circuit.specs.Survey.{reasons, cone, inFront, front}
-use Rattle.circuit.specs.Source001.{Seen}
 use Rattle.circuit.proofs.Values.{opposite, same-false}
 use Rattle.circuit.proofs.Lists.{select-in, in-select, in-upTo, upTo-in, isEmpty-none}
 use Rattle.circuit.proofs.Spread.{spread-start, spread-closed}
+use Rattle.circuit.proofs.Shapes.{Seen}
 use Rattle.circuit.proofs.Evaluate.{agrees}
 
 pub front-cone : (c : Circuit) (s : List ℕ) (g : ℕ) → inFront c s g ≡ true → cone c s g ≡ true

@@ -3,19 +3,27 @@
 use Prim.Native.Nat.{ℕ, _≤_}
 use mathlib.Core.Path.{_≡_, refl, sym, _∙_}
 use mathlib.Core.Logic.{_⊎_, inl, inr, _↔_}
-use mathlib.Core.Bool.{Bool, true, not}
+use mathlib.Core.Bool.{Bool, true, false, not}
 use mathlib.Core.List.{List, [], _∷_, map}
 use mathlib.Core.List.{List·Memᴰ as In, List·Memᴰ·cases-cons as cases, List·Memᴰ·not-nil as nowhere}
 use mathlib.Core.List.{Sublistᴰ as Sub}
 use native.Mathlib.Omega.{arith}
 use lib.ListN.{length}
 use borrow.Author.Tests.{not-true}
-use Rattle.circuit.specs.Tools.{same, Distinct, singles, select}
-use Rattle.circuit.specs.Gate.{Kind, fanInFits, gives, relevant, wrong, options}
-use Rattle.circuit.specs.Source001.{Partial, Has, restrict, TakesPart, changed, MoveOf, Seen}
+use Rattle.circuit.specs.Tools.{same, Rising, Distinct, singles, select}
+use Rattle.circuit.specs.Gate.{Kind, isInput, fanInFits, gives, relevant, wrong, options}
+use Rattle.circuit.specs.Source001.{Partial, Has, restrict, TakesPart, changed, MoveOf}
 use Rattle.circuit.proofs.Values.{opposite, same-true, same-false, same-refl, same-swap, same-not}
 use Rattle.circuit.proofs.Lists.{map-same, select-in, select-same, select-one, singles-in, singles-out, singles-length, singles-distinct}
 use Rattle.circuit.proofs.Justification.{has-or-not, fill, fill-extends, restrict-at, restrict-has, just, just-at, just-has, One, some-child, enough, all-other, Each, move-sound, one-minimal, one-only, total, each-minimal}
+
+-- A gate that is no input, by its kind, its children xs and their values: the fan-in is allowed, the children ascend, and `was` is the value that
+-- they give. `WellFormed` has `fits` and `rising` for every gate.
+pub record Seen (k : Kind) (at : ℕ → Bool) (xs : List ℕ) (was : Bool) : Type 0 where
+  pub gate : isInput k ≡ false
+  pub fits : fanInFits k (length xs) ≡ true
+  pub rising : Rising xs
+  pub gave : gives k (map at xs) ≡ was
 
 -- The laws of a kind of gate at a value v.
 --     force     the relevant children's values force the gate's value

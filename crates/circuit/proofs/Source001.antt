@@ -1,4 +1,4 @@
--- Document 01's justified gates, relevant children and down options are those of source document 001. Assumes nothing.
+-- Document 01's justified gates and down options are those of source document 001. Assumes nothing.
 use Prim.Native.Nat.{ℕ, _<_}
 use mathlib.Core.Path.{_≡_, sym, ap, _∙_}
 use mathlib.Core.Logic.{inl, inr}
@@ -13,7 +13,7 @@ use Rattle.circuit.specs.Tools.{same}
 use Rattle.circuit.specs.Gate.{isInput, gives}
 use Rattle.circuit.specs.Circuit.{Circuit, WellFormed, Configuration, on, justified, GateZeroIsInput}
 use Rattle.circuit.specs.Run.{downOptions, turn}
-use Rattle.circuit.specs.Source001.{Extends, contrary, MoveOf, Smallest, first, then, IsClosed, SmallestIs, TurnsExactly, JustifiedIs001, RelevantIs001, OptionsAre001, OptionsInOrder, DownOptionsAre001, DownOptionsInOrder, Justifies, OptionsJustify}
+use Rattle.circuit.specs.Source001.{Extends, contrary, MoveOf, Smallest, first, then, IsClosed, SmallestIs, TurnsExactly, JustifiedIs001, DownOptionsAre001, DownOptionsInOrder, Justifies, OptionsJustify}
 use Rattle.circuit.proofs.Values.{opposite, same-true, same-false}
 use Rattle.circuit.proofs.Lists.{at-place, select-in, in-select}
 use Rattle.circuit.proofs.Justification.{restrict-has, restrict-justifies}
@@ -29,15 +29,6 @@ smallest-in First Next S k x (then {g} r b) = k .closed g x (smallest-in First N
 pub smallest-is : SmallestIs
 smallest-is First Next = (record { has = λ x f. first f; closed = λ g x r b. then r b }, smallest-in First Next)
 
-pub relevant-is : RelevantIs001
-relevant-is k v at xs e x = laws k v (e .gate) .part at xs e x
-
-pub options-are : OptionsAre001
-options-are k v at xs e = (laws k v (e .gate) .move at xs e, laws k v (e .gate) .once at xs e)
-
-pub options-in-order : OptionsInOrder
-options-in-order k v at xs e = laws k v (e .gate) .order at xs e
-
 pub justified-is : JustifiedIs001
 justified-is c s g = (
   λ e. elim (which (isInput (c .kind g))) [
@@ -52,11 +43,16 @@ justified-is c s g = (
 
 pub down-options-are : DownOptionsAre001
 unfolding downOptions
-down-options-are c ok s g h u = options-are (c .kind g) (on s g) (on s) (c .kids g) (unjustified-seen c ok s g h u)
+down-options-are c ok s g h u =
+    let e = unjustified-seen c ok s g h u in
+    let l = laws (c .kind g) (on s g) (e .gate) in
+    (l .move (on s) (c .kids g) e, l .once (on s) (c .kids g) e)
 
 pub down-options-in-order : DownOptionsInOrder
 unfolding downOptions
-down-options-in-order c ok s g h u = options-in-order (c .kind g) (on s g) (on s) (c .kids g) (unjustified-seen c ok s g h u)
+down-options-in-order c ok s g h u =
+    let e = unjustified-seen c ok s g h u in
+    laws (c .kind g) (on s g) (e .gate) .order (on s) (c .kids g) e
 
 -- a gate that is no input has a child below it
 pub gate-zero : GateZeroIsInput

@@ -15,12 +15,12 @@ use Rattle.circuit.specs.Gate.{isInput, relevant}
 use Rattle.circuit.specs.Circuit.{Circuit, coded, gatesIn, WellFormed, on, justified}
 use Rattle.circuit.specs.Evaluate.{differ}
 use Rattle.circuit.specs.Survey.{reasons, cone, inFront, front, interest, survey, frontSize, interestSize}
-use Rattle.circuit.specs.Source001.{first, then, Descendant, child, further, Brings, Cone, Front, Interesting, Lists, InputsInOrder, DifferIs, SurveyOf001, SurveyIs001}
+use Rattle.circuit.specs.Source001.{first, then, Descendant, child, further, Brings, Cone, Front, Interesting, Lists, RelevantIs001, InputsInOrder, DifferIs, SurveyOf001, SurveyIs001}
 use Rattle.circuit.proofs.Lists.{select-in, in-select, select-sub, sub-rising, in-upTo, upTo-in, length-upTo, rising-upTo, map-at}
-use Rattle.circuit.proofs.Gate.{no-part}
+use Rattle.circuit.proofs.Gate.{laws, no-part}
 use Rattle.circuit.proofs.Spread.{spread-start, spread-closed, spread-least}
 use Rattle.circuit.proofs.Cone.{justified-seen, cone-coded, cone-child}
-use Rattle.circuit.proofs.Source001.{relevant-is, justified-is}
+use Rattle.circuit.proofs.Source001.{justified-is}
 
 -- a set of gates, as a test and as a predicate
 pub lists-set : (c : Circuit) (p : ℕ → Bool) (P : ℕ → Type 0) → ((x : ℕ) → x < c .gates → p x ≡ true → P x) → ((x : ℕ) → P x → (x < c .gates) × (p x ≡ true))
@@ -61,11 +61,18 @@ module _ (c : Circuit) (ok : WellFormed c) (s : List ℕ) where
           | inr n ↦ record {
             gate = n;
             justified = justified-is c s g .0 j;
-            part = relevant-is (c .kind g) (on s g) (on s) (c .kids g) (justified-seen c ok s g h n j) x .0 (i, q);
+            part = laws (c .kind g) (on s g) n .part (on s) (c .kids g) (justified-seen c ok s g h n j) x .0 (i, q);
           }
         ])
     | inr j ↦ absurd (nowhere (rw j at m))
   ]
+
+  is-reason : (g x : ℕ) → g < c .gates → Brings c s g x → In x (reasons c s g)
+  unfolding reasons
+  is-reason g x h b =
+      let j : justified c s g ≡ true = justified-is c s g .1 (b .justified) in
+      let (i, q) = laws (c .kind g) (on s g) (b .gate) .part (on s) (c .kids g) (justified-seen c ok s g h (b .gate) j) x .1 (b .part) in
+      rw j (in-select (λ y. relevant (c .kind g) (on s g) (on s y)) x (c .kids g) i q)
 
   cone-to : (x : ℕ) → x < c .gates → cone c s x ≡ true → Cone c s x
   unfolding cone
@@ -78,7 +85,7 @@ module _ (c : Circuit) (ok : WellFormed c) (s : List ℕ) where
   cone-from x (then {g} r b) =
       let (h, e) = cone-from g r in
       let j : justified c s g ≡ true = justified-is c s g .1 (b .justified) in
-      let (i, q) = relevant-is (c .kind g) (on s g) (on s) (c .kids g) (justified-seen c ok s g h (b .gate) j) x .1 (b .part) in
+      let (i, q) = laws (c .kind g) (on s g) (b .gate) .part (on s) (c .kids g) (justified-seen c ok s g h (b .gate) j) x .1 (b .part) in
       (omega (arith, ok .below g h x i), cone-child c ok s g h e j x i q)
 
   -- ---- the front
@@ -150,3 +157,6 @@ module _ (c : Circuit) (ok : WellFormed c) (s : List ℕ) where
 
 pub survey-is : SurveyIs001
 survey-is = surveyed
+
+pub relevant-is : RelevantIs001
+relevant-is c ok s g h x = (brings c ok s g x h, is-reason c ok s g x h)

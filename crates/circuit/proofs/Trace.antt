@@ -17,8 +17,8 @@ use Rattle.circuit.specs.Run.{move, RunResult, endsFound, stop, after, r
 use Rattle.circuit.specs.Promise.{NoFront, EntryDone, config, RunPromised, Demand2OnCircuits}
 use Rattle.circuit.proofs.Found.{answer-is, answer-satisfies}
 use Rattle.circuit.proofs.Gate.{functions}
-use Rattle.circuit.proofs.Source001.{justified-is, relevant-is, smallest-is, down-options-are, down-options-in-order, options-justify}
-use Rattle.circuit.proofs.Survey.{inputs-in-order, differ-is, survey-is}
+use Rattle.circuit.proofs.Source001.{justified-is, smallest-is, down-options-are, down-options-in-order, options-justify}
+use Rattle.circuit.proofs.Survey.{relevant-is, inputs-in-order, differ-is, survey-is}
 use Rattle.circuit.proofs.Moves.{greedy-options-are, no-front, some-front, entry-done}
 
 -- ---- one turn of a run

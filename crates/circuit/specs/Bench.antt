@@ -44,8 +44,8 @@ abbrev pub C : List ℕ
 C = 0 ∷ 0 ∷ 1 ∷ 0 ∷ 0 ∷ 0 ∷ 0 ∷ 1 ∷ []
 
 -- P9: "0 input, 1 NOT(0), 2 AND(0,1), code 2 = 1, start 0 0 1"
-unfoldable pub clash : Circuit
-clash = record {
+unfoldable pub circuitP9 : Circuit
+circuitP9 = record {
   gates = 3;
   kind = λ g. getD (Input ∷ Not ∷ And ∷ []) g Input;
   kids = λ g. getD ([] ∷ one 0 ∷ pair 0 1 ∷ []) g [];
@@ -53,12 +53,12 @@ clash = record {
 }
 
 -- P10: "one input, no code, start 1"
-unfoldable pub uncoded : Circuit
-uncoded = record { gates = 1; kind = λ g. Input; kids = λ g. []; code = λ g. none }
+unfoldable pub circuitP10 : Circuit
+circuitP10 = record { gates = 1; kind = λ g. Input; kids = λ g. []; code = λ g. none }
 
 -- P11: "0, 1 inputs, 2 NOT(0), 3 AND(0,2), 4 OR(1,3), code 4 = 1, start 0 0 1 1 1"
-unfoldable pub corner : Circuit
-corner = record {
+unfoldable pub circuitP11 : Circuit
+circuitP11 = record {
   gates = 5;
   kind = λ g. getD (Input ∷ Input ∷ Not ∷ And ∷ Or ∷ []) g Input;
   kids = λ g. getD ([] ∷ [] ∷ one 0 ∷ pair 0 2 ∷ pair 1 3 ∷ []) g [];
@@ -92,8 +92,8 @@ nots = record {
   code = λ g. getD (none ∷ none ∷ none ∷ some true ∷ some true ∷ some true ∷ []) g none;
 }
 
-abbrev pub ones : List ℕ
-ones = 1 ∷ 1 ∷ 1 ∷ 1 ∷ 1 ∷ 1 ∷ []
+abbrev pub allAtOne : List ℕ
+allAtOne = 1 ∷ 1 ∷ 1 ∷ 1 ∷ 1 ∷ 1 ∷ []
 
 -- "every draw is 0; "down 3" is kind down with option 3"
 abbrev pub entry : Choice → Entry
@@ -116,12 +116,12 @@ pub record Examples : Type 0 where
   -- Of an AND at 0 in the cone only the child at 0 counts. None of P1 to P12 would tell if all of them counted.
   pub and-at-zero : survey nand (0 ∷ 1 ∷ 0 ∷ 1 ∷ []) ≡ 1 ∷ 0 ∷ 1 ∷ 1 ∷ []
   -- P9's start: a NOT is interesting like others.
-  pub not-below : survey clash (0 ∷ 0 ∷ 1 ∷ []) ≡ 4 ∷ 4 ∷ 7 ∷ []
+  pub not-below : survey circuitP9 (0 ∷ 0 ∷ 1 ∷ []) ≡ 4 ∷ 4 ∷ 7 ∷ []
   -- AND at 1 turns its wrong children and no other; XOR has an option for each child.
-  pub and-wrong-alone : downOptions clash (1 ∷ 0 ∷ 1 ∷ []) 2 ≡ one 1 ∷ []
+  pub and-wrong-alone : downOptions circuitP9 (1 ∷ 0 ∷ 1 ∷ []) 2 ≡ one 1 ∷ []
   pub xor-options : downOptions adder A 3 ≡ one 0 ∷ one 1 ∷ []
   -- A draw of 4 from a front of three: the gate at place 1.
-  pub drawn-turns : entryTurns nots ones (drawing 4) ≡ one 1
+  pub drawn-turns : entryTurns nots allAtOne (drawing 4) ≡ one 1
   -- P7: up on a coded gate acts as down, with its option. P5: on an uncoded gate it turns it.
   pub up-on-coded : entryTurns adder C (entry (Up 1)) ≡ one 5
   pub up-on-uncoded : entryTurns adder A (entry (Up 1)) ≡ one 3
@@ -133,8 +133,8 @@ pub record Examples : Type 0 where
   pub found-at-once : run adder B (entry (Down 0) ∷ []) ≡ stop Found B
   -- P9: each entry works on what the one before left; flips counts the values turned, 2 and then 1.
   pub two-moves :
-      run clash (0 ∷ 0 ∷ 1 ∷ []) (entry (Down 0) ∷ entry (Down 0) ∷ [])
+      run circuitP9 (0 ∷ 0 ∷ 1 ∷ []) (entry (Down 0) ∷ entry (Down 0) ∷ [])
       ≡ record { outcome = record { ending = Spent 1; moves = 2; flips = 3 }; last = 0 ∷ 1 ∷ 1 ∷ [] }
-  -- P8: the answer is not the configuration, for B breaks gate 3, and input 2 is not in the cone. P11: input 0 is not in the cone either.
+  -- P8: the answer is not the configuration, for B breaks gate 3; input 2, at 1 and not in the cone, does not keep its value. P11: input 0, at 0 and not in the cone, is not turned.
   pub answer-is-evaluated : answer adder B ≡ 1 ∷ 1 ∷ 0 ∷ 0 ∷ 1 ∷ 0 ∷ 0 ∷ 1 ∷ []
-  pub answer-outside-cone : answer corner (0 ∷ 1 ∷ 1 ∷ 0 ∷ 1 ∷ []) ≡ 0 ∷ 1 ∷ 1 ∷ 0 ∷ 1 ∷ []
+  pub answer-outside-cone : answer circuitP11 (0 ∷ 1 ∷ 1 ∷ 0 ∷ 1 ∷ []) ≡ 0 ∷ 1 ∷ 1 ∷ 0 ∷ 1 ∷ []

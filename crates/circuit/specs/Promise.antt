@@ -131,7 +131,7 @@ RunPromised c s es r = Promised c s es (config c s es) (told (r .outcome .ending
 -- Demand 2 on circuits.
 --     functions, justified           "NOT, AND, OR and XOR mean what 001 says", and so does justified
 --     relevant                       the parts of subset-minimal justifications
---     smallest                       what a smallest set is, for cone and interest set
+--     smallest                       what a smallest set is, for the cone
 --     surveys                        "Cone, front and interest set are those of source document 001, save two differences"
 --     options, order, justify        the down options are 001's, in document 01's order; each justifies its gate, and `turn` turns just its gates
 --     greedy                         what greedy picks from

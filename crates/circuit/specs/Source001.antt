@@ -10,10 +10,10 @@ use mathlib.Core.Option.{Option, none, some}
 use mathlib.Core.List.{List, [], _∷_, map, List·Memᴰ as In}
 use lib.ListN.{length, getD}
 use Rattle.circuit.specs.Tools.{byte, same, member, Rising, Distinct, singles, select}
-use Rattle.circuit.specs.Gate.{Kind, Not, And, Or, Xor, isInput, fanInFits, gives, relevant, wrong, options}
+use Rattle.circuit.specs.Gate.{Not, And, Or, Xor, isInput, gives, wrong}
 use Rattle.circuit.specs.Circuit.{Circuit, coded, WellFormed, Configuration, on, justified}
 use Rattle.circuit.specs.Evaluate.{inputs, differ}
-use Rattle.circuit.specs.Survey.{cone, inFront, front, interest, survey, frontSize, interestSize}
+use Rattle.circuit.specs.Survey.{reasons, cone, inFront, front, interest, survey, frontSize, interestSize}
 use Rattle.circuit.specs.Run.{downOptions, turn}
 
 -- ---- assignments
@@ -79,11 +79,12 @@ pub record TakesPart (f : List Bool → Bool) (xs : List ℕ) (v : Bool) (at : �
   pub value : Bool
   pub has : Has by x value
 
--- the children to which σ gives another value than the configuration
+-- is a value given, and another than b
 abbrev pub contrary : Option Bool → Bool → Bool
 contrary none b = false
 contrary (some a) b = not (same a b)
 
+-- the children to which σ gives another value than the configuration
 abbrev pub changed : Partial → (ℕ → Bool) → List ℕ → List ℕ
 changed σ at xs = select (λ x. contrary (σ x) (at x)) xs
 
@@ -166,41 +167,20 @@ pub record Functions : Type 0 where
 abbrev pub JustifiedIs001 : Type 0
 JustifiedIs001 = (c : Circuit) (s : List ℕ) (g : ℕ) → (justified c s g ≡ true) ↔ Justified c s g
 
--- A gate that is no input, by its kind, its children xs and their values: the fan-in is allowed, the children ascend, and `was` is the value that
--- they give. `WellFormed` has `fits` and `rising` for every gate.
-pub record Seen (k : Kind) (at : ℕ → Bool) (xs : List ℕ) (was : Bool) : Type 0 where
-  pub gate : isInput k ≡ false
-  pub fits : fanInFits k (length xs) ≡ true
-  pub rising : Rising xs
-  pub gave : gives k (map at xs) ≡ was
-
--- The table of relevant children, at a justified gate, has exactly the children in some subset minimal justification that agrees. (At an unjustified
--- gate nobody asks the table.)
+-- The table of relevant children has exactly the children in some subset minimal justification that agrees: those that a justified gate brings into the cone.
 abbrev pub RelevantIs001 : Type 0
 RelevantIs001 =
-    (k : Kind) (v : Bool) (at : ℕ → Bool) (xs : List ℕ) → Seen k at xs v
-    → (x : ℕ) → (In x xs × (relevant k v (at x) ≡ true)) ↔ TakesPart (gives k) xs v at x
+    (c : Circuit) → WellFormed c → (s : List ℕ) (g : ℕ) → g < c .gates
+    → (x : ℕ) → In x (reasons c s g) ↔ Brings c s g x
 
 -- The down options, at an unjustified gate, are exactly the moves of the subset minimal justifications, each once. ("Only these minimal
 -- justifications are used.")
-abbrev pub OptionsAre001 : Type 0
-OptionsAre001 =
-    (k : Kind) (v : Bool) (at : ℕ → Bool) (xs : List ℕ) → Seen k at xs (not v)
-    → ((o : List ℕ) → In o (options k v at xs) ↔ MoveOf (gives k) xs v at o) × Distinct (options k v at xs)
-
--- Their order is document 01's own: "a single option that turns every wrong child", or "one per child in order".
-abbrev pub OptionsInOrder : Type 0
-OptionsInOrder =
-    (k : Kind) (v : Bool) (at : ℕ → Bool) (xs : List ℕ) → Seen k at xs (not v)
-    → (options k v at xs ≡ wrong v at xs ∷ []) ⊎ (options k v at xs ≡ singles xs)
-
--- `OptionsAre001` on circuits, for the options that moves pick from
 abbrev pub DownOptionsAre001 : Type 0
 DownOptionsAre001 =
     (c : Circuit) → WellFormed c → (s : List ℕ) (g : ℕ) → g < c .gates → justified c s g ≡ false
     → ((o : List ℕ) → In o (downOptions c s g) ↔ OptionOf c s g o) × Distinct (downOptions c s g)
 
--- `OptionsInOrder` for these: "numbered from 0: .. a single option that turns every wrong child; .. one per child in order"
+-- Their order is document 01's own: "numbered from 0: .. a single option that turns every wrong child; .. one per child in order".
 abbrev pub DownOptionsInOrder : Type 0
 DownOptionsInOrder =
     (c : Circuit) → WellFormed c → (s : List ℕ) (g : ℕ) → g < c .gates → justified c s g ≡ false

@@ -1,4 +1,4 @@
--- The demands, on bytes. Assumes nothing.
+-- Demands 2 and 3, on bytes. Assumes nothing.
 use Prim.Native.Nat.{ℕ, zero, suc, _*_, _≤_, _<_}
 use mathlib.Core.Path.{_≡_, refl, sym, ap, _∙_}
 use mathlib.Core.Bool.{true, false, false≢true, true≢false}
@@ -29,49 +29,20 @@ use Rattle.map.specs.Check.{firstFailed, mapTests}
 use Rattle.map.specs.Inner.{IsMap}
 use Rattle.map.proofs.Accepted.{facts, well-formed}
 use Rattle.map.proofs.Codes.{code-found}
-use Rattle.map.proofs.Described.{map-accepts, check-number, check-accepts, check-does, check-refuses, accepted-maps}
-use Rattle.map.proofs.Parts.{children-does}
+use Rattle.map.proofs.Described.{map-accepts, accepted-maps}
 use Rattle.state.specs.State.{over, Satisfies}
 use Rattle.state.proofs.Over.{over-first, over-rest, over-long}
-use Rattle.state.proofs.Meaning.{evaluate-does, evaluate-accepts, evaluate-number, evaluate-refuses, mark-does, mark-accepts, mark-number, mark-refuses}
+use Rattle.state.proofs.Meaning.{mark-does}
 use Rattle.survey.specs.Survey.{IsStart}
-use Rattle.survey.proofs.Meaning.{survey-does, survey-accepts, survey-number, survey-refuses}
+use Rattle.survey.proofs.Meaning.{survey-does, survey-accepts}
 use Rattle.tape.specs.Tape.{mostEntries, entries}
 use Rattle.search.specs.Run.{tapeTests, runTests, answerMemory, runAnswer, runEnded, runBy, runEffect, Room, Runnable}
 use Rattle.search.proofs.Runs.{survey-length, answer-length}
 use Rattle.search.proofs.Endings.{run-ends}
-use Rattle.demands.specs.Demands.{FoundWrites, RunMeans, RunDoes, Demand1, Demand2, SameRun, SameForAllMemories, AreDraws, Way, Plain, tapeOf, Finishing, Demand3}
-use Rattle.demands.proofs.Moves.{move-does, move-accepts, move-number, move-refuses}
-use Rattle.demands.proofs.Runs.{of-room, none, written, runnable, of-runnable, found-accepted, run-accepts, run-number, run-refuses, run-few, front-few}
+use Rattle.demands.specs.Demands.{FoundWrites, RunMeans, RunDoes, Demand2, SameRun, SameForAllMemories, AreDraws, Way, Plain, tapeOf, Finishing, Demand3}
+use Rattle.demands.proofs.Moves.{move-does, move-accepts}
+use Rattle.demands.proofs.Runs.{of-room, none, written, runnable, of-runnable, found-accepted, run-accepts, run-few, front-few}
 use Rattle.demands.proofs.Tapes.{entries-length, entry-is, entry-read, waysOf, ways-length, ways-plain, entries-back, tape-length, tape-kinds, tape-bytes}
-
--- ---- demand 1
-
-pub demand1 : Demand1
-demand1 = record {
-  check-number = check-number;
-  check-accepts = check-accepts;
-  check-refuses = check-refuses;
-  check-does = check-does;
-  children = children-does;
-  evaluate-accepts = evaluate-accepts;
-  evaluate-number = evaluate-number;
-  evaluate-refuses = evaluate-refuses;
-  evaluate-does = evaluate-does;
-  mark-accepts = mark-accepts;
-  mark-number = mark-number;
-  mark-refuses = mark-refuses;
-  mark-does = mark-does;
-  survey-accepts = survey-accepts;
-  survey-number = survey-number;
-  survey-refuses = survey-refuses;
-  move-accepts = move-accepts;
-  move-number = move-number;
-  move-refuses = move-refuses;
-  run-accepts = run-accepts;
-  run-number = run-number;
-  run-refuses = run-refuses;
-}
 
 -- ---- demand 2
 

@@ -3,4 +3,5 @@ pub mod Moves
 pub mod Runs
 pub mod Demands
 pub mod Lines
+pub mod Demand1
 pub mod Table

@@ -22,10 +22,10 @@ use Rattle.map.specs.Check.{verdict}
 use Rattle.map.specs.Inner.{Shaped}
 use Rattle.map.proofs.Accepted.{facts}
 use Rattle.map.proofs.Answers.{behind-refused}
-use Rattle.search.specs.Run.{runTests, RunEffect, endingOf, runAnswer, runBy, runEffect, Room}
+use Rattle.search.specs.Run.{runTests, RunEffect, endingValues, runAnswer, runBy, runEffect, Room}
 use Rattle.demands.proofs.Demands.{same-for-all-memories}
 use Rattle.line.specs.Text.{AreBytes, decimalIn, decimal, readOn, readDecimal, DecimalReads}
-use Rattle.line.specs.Line.{mostInput, configurationAt, tapeAt, mapPart, configurationPart, tapePart, inputTest, lent, rowText, report, effectLine, runLine, lineOf, inputOf, ExactInput, three-bodies, refused-0, EveryInput, SameLineForAllMemories, lineRoom, LineFits}
+use Rattle.line.specs.Line.{mostInput, configurationPlace, tapePlace, mapPart, configurationPart, tapePart, inputTest, lent, rowText, report, effectLine, runLine, lineOf, inputOf, ExactInput, three-bodies, refused-0, EveryInput, SameLineForAllMemories, lineRoom, LineFits}
 use Rattle.line.proofs.Rows.{same-row}
 use Rattle.line.proofs.Lines.{found-shaped, Whole, whole, line-refused, line-runs, map-part, configuration-part, tape-part, parts-whole}
 
@@ -34,7 +34,7 @@ use Rattle.line.proofs.Lines.{found-shaped, Whole, whole, line-refused, line-ru
 pub exact-input : ExactInput
 exact-input m s tape h = rw (map-part m s tape, configuration-part m s tape, tape-part m s tape) at (sym (line-runs (inputOf m s tape) (parts-whole m s tape h)))
 
-is-whole : (x : List ℕ) → leb (length x) mostInput ≡ true → length x ≡ tapeAt x + u16At x 4 → inputTest x ≡ true
+is-whole : (x : List ℕ) → leb (length x) mostInput ≡ true → length x ≡ tapePlace x + u16At x 4 → inputTest x ≡ true
 unfolding inputTest
 is-whole x h e = and-both _ _ h (eq-eqb _ _ e)
 
@@ -50,17 +50,17 @@ module _ (a b c d e f : ℕ) (r : List ℕ) where
   q = u16At x 2
 
   map-is : mapPart x ≡ take p r
-  map-is = let z : configurationAt x - 6 ≡ p = omega arith in ap (λ (n : ℕ). take n r) z
+  map-is = let z : configurationPlace x - 6 ≡ p = omega arith in ap (λ (n : ℕ). take n r) z
 
   configuration-is : configurationPart x ≡ take q (drop p r)
-  configuration-is = let z : tapeAt x - configurationAt x ≡ q = omega arith in rw (← drop-drop p 6 x) (ap (λ (n : ℕ). take n (drop p r)) z)
+  configuration-is = let z : tapePlace x - configurationPlace x ≡ q = omega arith in rw (← drop-drop p 6 x) (ap (λ (n : ℕ). take n (drop p r)) z)
 
   module _ (w : Whole x) (l : AreBytes x) where
     behind : length (drop q (drop p r)) ≡ u16At x 4
     behind = length-drop q (drop p r) ∙ ap (λ (n : ℕ). n - q) (length-drop p r) ∙ omega (arith, w .exact)
 
     tape-is : tapePart x ≡ drop q (drop p r)
-    tape-is = rw (← drop-drop q (6 + p) x, ← drop-drop p 6 x) (take-all (length x - tapeAt x) (drop q (drop p r)) (omega (arith, behind, w .exact)))
+    tape-is = rw (← drop-drop q (6 + p) x, ← drop-drop p 6 x) (take-all (length x - tapePlace x) (drop q (drop p r)) (omega (arith, behind, w .exact)))
 
     lengths : (length (take p r) ≡ p) × (length (take q (drop p r)) ≡ q)
     lengths = (length-take-le p r (omega (arith, w .exact)), length-take-le q (drop p r) (omega (arith, length-drop p r, w .exact)))
@@ -115,7 +115,7 @@ module _ (m s tape work ans : List ℕ) where
       let q = same-for-all-memories m s tape work ans lent lent r (record { work-room = l; answer-room = l }) in
       let here = runEffect m s tape work ans in
       let there = runEffect m s tape lent lent in
-      same-report (endingOf here) (here .moves) (here .flips) m (here .answer) (there .answer) (q .answered)
+      same-report (endingValues here) (here .moves) (here .flips) m (here .answer) (there .answer) (q .answered)
       ∙ ap (λ (e : EndingValues). report e (here .moves) (here .flips) m (there .answer)) (q .ending)
       ∙ rw (q .moves, q .flips)
 
@@ -158,7 +158,7 @@ ran x = runEffect (mapPart x) (configurationPart x) (tapePart x) lent lent
 
 pub line-fits : LineFits
 line-fits x = elim (which (inputTest x)) [
-  | inl q ↦ rw (← line-runs x q) (report-length (endingOf (ran x)) _ _ _ _ (found-shaped (mapPart x) (configurationPart x) (tapePart x) lent lent))
+  | inl q ↦ rw (← line-runs x q) (report-length (endingValues (ran x)) _ _ _ _ (found-shaped (mapPart x) (configurationPart x) (tapePart x) lent lent))
   | inr q ↦ rw (← line-refused x q) (simp length-append (omega (arith, decimal-length 10 0)))
 ]
 

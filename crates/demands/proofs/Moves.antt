@@ -27,7 +27,7 @@ use Rattle.state.specs.State.{over}
 use Rattle.state.proofs.Over.{over-first, over-rest, over-long}
 use Rattle.state.proofs.Meaning.{behind}
 use Rattle.survey.proofs.Starts.{behind-start, of-start, start-number}
-use Rattle.tape.specs.Tape.{entryAt, kindsTest}
+use Rattle.tape.specs.Tape.{entryAt, entryKindsTest}
 use Rattle.search.specs.Move.{frontTest, entryTests, moveTests, moveBy, moveEffect, MoveDoes, Movable, MoveAccepts, MoveNumber, MoveRefuses}
 use Rattle.search.proofs.Passed.{move-passed, early-none, early-passes}
 use Rattle.demands.proofs.Tapes.{entry-read}
@@ -66,12 +66,12 @@ module _ (m s entry work : List ℕ) where
   accepted e = rw (eq-eqb number 0 e)
 
   -- a kind, as the test of a tape of one entry sees it
-  kind-of : length entry ≡ 4 → kindsTest entry ≡ true → getD entry 2 0 ≤ 2
-  unfolding kindsTest
+  kind-of : length entry ≡ 4 → entryKindsTest entry ≡ true → getD entry 2 0 ≤ 2
+  unfolding entryKindsTest
   kind-of l e = leb-true _ _ (all-at (λ i. leb (getD entry (4 * i + 2) 0) 2) (length entry / 4) 0 e (omega arith))
 
-  of-kind : length entry ≡ 4 → getD entry 2 0 ≤ 2 → kindsTest entry ≡ true
-  unfolding kindsTest
+  of-kind : length entry ≡ 4 → getD entry 2 0 ≤ 2 → entryKindsTest entry ≡ true
+  unfolding entryKindsTest
   of-kind l h = all-of (λ i. leb (getD entry (4 * i + 2) 0) 2) (length entry / 4) (λ i b. (let z : i ≡ 0 = omega arith in rw z (le-leb _ _ h)))
 
   -- what each test says

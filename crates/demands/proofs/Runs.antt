@@ -27,7 +27,7 @@ use Rattle.map.proofs.Answers.{behind-accepted}
 use Rattle.map.proofs.Described.{tested, map-number}
 use Rattle.state.proofs.Meaning.{behind}
 use Rattle.survey.proofs.Starts.{behind-start, of-start, start-number}
-use Rattle.tape.specs.Tape.{mostTape, entries, tapeTest, LengthAllowed}
+use Rattle.tape.specs.Tape.{mostTape, entries, tapeLengthTest, LengthAllowed}
 use Rattle.search.specs.Run.{tapeTests, runTests, runAnswer, runEnded, runOnTape, runBy, runEffect, Room, Runnable, RunAccepts, RunNumber, RunRefuses}
 use Rattle.search.proofs.Passed.{room-of, run-passed}
 use Rattle.search.proofs.Endings.{run-ends}
@@ -83,7 +83,7 @@ module _ (m s tape work ans : List ℕ) where
 
   -- what each test says
   pub runnable : number ≡ 0 → Runnable m s tape work ans
-  unfolding tapeTest
+  unfolding tapeLengthTest
   runnable n =
       let (v, t) = behind m (runTests m s tape work ans) n in
       let p = run-passed m s tape work ans t in
@@ -96,7 +96,7 @@ module _ (m s tape work ans : List ℕ) where
       }
 
   pub of-runnable : Runnable m s tape work ans → number ≡ 0
-  unfolding runTests tapeTests tapeTest
+  unfolding runTests tapeTests tapeLengthTest
   of-runnable a =
       behind-accepted m _ (a .start .accepted)
       ∙ behind-start m s _ (of-start m s (a .start .keeps))
@@ -112,7 +112,7 @@ run-accepts m s tape work ans = (
 )
 
 pub run-number : RunNumber
-unfolding runTests tapeTests tapeTest
+unfolding runTests tapeTests tapeLengthTest
 run-number m s tape work ans =
     let n = runEffect m s tape work ans .number in
     map-number m _ n _ (number-is m s tape work ans) λ v e.

@@ -6,30 +6,30 @@ use Rattle.circuit.specs.Circuit.{justified}
 use Rattle.circuit.specs.Evaluate.{inputsBefore, rowOf, values, mark}
 use Rattle.circuit.specs.Survey.{spread, reasons, cone, inFront, front, interest, survey, frontSize, interestSize}
 use Rattle.circuit.specs.Run.{drawn, downOptions, optionAt, greedyOptions, chosen, entryTurns, run, answer}
-use Rattle.circuit.specs.Bench.{adder, clash, uncoded, corner}
+use Rattle.circuit.specs.Bench.{adder, circuitP9, circuitP10, circuitP11}
 use Rattle.kinds.specs.Kinds.{kindFits}
 use Rattle.map.specs.Map.{u16At, fanInsBefore, codeAmong, kidsOf}
 use Rattle.map.specs.Check.{offsetsTest, kindTest, positionTest, positionsTest, childTest, childrenTest, codeTest, freeTest, firstFailed, contentsTests, bodiesTests, mapTests}
 use Rattle.state.specs.State.{bitsTest, configurationTests, markBy, markEffect}
-use Rattle.survey.specs.Survey.{codesTest, startTests, surveyTests, surveyBy, surveyEffect}
-use Rattle.tape.specs.Tape.{entryAt, entriesFrom, entries, tapeTest, kindsTest}
+use Rattle.survey.specs.Survey.{codesShownTest, startTests, surveyTests, surveyBy, surveyEffect}
+use Rattle.tape.specs.Tape.{entryAt, entriesFrom, entries, tapeLengthTest, entryKindsTest}
 use Rattle.search.specs.Move.{frontTest, entryTests, moveTests, moveBy, moveEffect}
 use Rattle.search.specs.Run.{tapeTests, runTests, runAnswer, runEnded, runBy, runEffect}
 use Rattle.line.specs.Text.{decimalIn}
 use Rattle.line.specs.Line.{inputTest, lent, lineOf}
-use Rattle.demands.specs.Table.{adderBytes, clashBytes, uncodedBytes, cornerBytes, P1ToP12}
+use Rattle.demands.specs.Table.{adderBytes, mapP9, mapP10, mapP11, P1ToP12}
 
 -- the definitions that the examples compute with, under one name for each part
 on-circuits : ℕ
-unfolding _and_ _or_ allBelow descend justified inputsBefore rowOf values mark spread reasons cone inFront front interest survey frontSize interestSize drawn downOptions optionAt greedyOptions chosen entryTurns run answer adder clash uncoded corner
+unfolding _and_ _or_ allBelow descend justified inputsBefore rowOf values mark spread reasons cone inFront front interest survey frontSize interestSize drawn downOptions optionAt greedyOptions chosen entryTurns run answer adder circuitP9 circuitP10 circuitP11
 on-circuits = 0
 
 on-maps : ℕ
-unfolding kindFits u16At fanInsBefore codeAmong kidsOf offsetsTest kindTest positionTest positionsTest childTest childrenTest codeTest freeTest firstFailed contentsTests bodiesTests mapTests adderBytes clashBytes uncodedBytes cornerBytes
+unfolding kindFits u16At fanInsBefore codeAmong kidsOf offsetsTest kindTest positionTest positionsTest childTest childrenTest codeTest freeTest firstFailed contentsTests bodiesTests mapTests adderBytes mapP9 mapP10 mapP11
 on-maps = 0
 
 in-calls : ℕ
-unfolding bitsTest configurationTests markBy markEffect codesTest startTests surveyTests surveyBy surveyEffect entryAt entriesFrom entries tapeTest kindsTest frontTest entryTests moveTests moveBy moveEffect tapeTests runTests runAnswer runEnded runBy runEffect decimalIn inputTest lent lineOf
+unfolding bitsTest configurationTests markBy markEffect codesShownTest startTests surveyTests surveyBy surveyEffect entryAt entriesFrom entries tapeLengthTest entryKindsTest frontTest entryTests moveTests moveBy moveEffect tapeTests runTests runAnswer runEnded runBy runEffect decimalIn inputTest lent lineOf
 in-calls = 0
 
 pub p1-to-p12 : P1ToP12
@@ -60,6 +60,8 @@ p1-to-p12 = record {
   P9-is = record { gates = refl; kinds = refl; kids = refl; codes = refl };
   P9-then = refl;
   P9 = refl;
+  P9-line = refl;
+  P9-word = refl;
   P10-is = record { gates = refl; kinds = refl; kids = refl; codes = refl };
   P10 = refl;
   P11-is = record { gates = refl; kinds = refl; kids = refl; codes = refl };

@@ -16,7 +16,7 @@ use Rattle.circuit.specs.declared.Choice.the-variants.{Greedy, Down, Up}
 use Rattle.circuit.specs.declared.Entry.{Entry}
 use Rattle.circuit.specs.Promise.{NotGreedy, optionByte}
 use Rattle.map.specs.Map.{u16At}
-use Rattle.tape.specs.Tape.{choiceOf, entryAt, ChoiceRead, EntryRead, entriesFrom, entries, kindsTest}
+use Rattle.tape.specs.Tape.{choiceOf, entryAt, ChoiceRead, EntryRead, entriesFrom, entries, entryKindsTest}
 use Rattle.line.specs.Text.{AreBytes}
 use Rattle.demands.specs.Demands.{AreDraws, Way, Plain, tapeOf}
 
@@ -81,12 +81,12 @@ entries-none = refl
 
 -- test 13, entry by entry
 module _ (t : List ℕ) (whole : length t % 4 ≡ 0) where
-  pub kinds-of : kindsTest t ≡ true → (i : ℕ) → 4 * i < length t → getD t (4 * i + 2) 0 ≤ 2
-  unfolding kindsTest
+  pub kinds-of : entryKindsTest t ≡ true → (i : ℕ) → 4 * i < length t → getD t (4 * i + 2) 0 ≤ 2
+  unfolding entryKindsTest
   kinds-of e i h = leb-true _ _ (all-at (λ j. leb (getD t (4 * j + 2) 0) 2) (length t / 4) i e (omega arith))
 
-  pub of-kinds : ((i : ℕ) → 4 * i < length t → getD t (4 * i + 2) 0 ≤ 2) → kindsTest t ≡ true
-  unfolding kindsTest
+  pub of-kinds : ((i : ℕ) → 4 * i < length t → getD t (4 * i + 2) 0 ≤ 2) → entryKindsTest t ≡ true
+  unfolding entryKindsTest
   of-kinds f = all-of (λ j. leb (getD t (4 * j + 2) 0) 2) (length t / 4) (λ i h. le-leb _ _ (f i (omega arith)))
 
 -- ---- the tape of some draws

@@ -17,14 +17,16 @@ use Rattle.state.specs.State.{Satisfies, EvaluateDoes, EvaluateAccepts, Evaluat
 use Rattle.survey.specs.Survey.{IsStart, SurveyDoes, SurveyAccepts, SurveyNumber, SurveyRefuses}
 use Rattle.tape.specs.Tape.{mostEntries, EntryRead, entries}
 use Rattle.search.specs.Move.{MoveDoes, MoveAccepts, MoveNumber, MoveRefuses}
-use Rattle.search.specs.Run.{RunEffect, endingOf, runEffect, Room, RunAccepts, RunNumber, RunRefuses}
+use Rattle.search.specs.Run.{RunEffect, endingValues, runEffect, Room, RunAccepts, RunNumber, RunRefuses}
 use Rattle.line.specs.Text.{AreBytes}
+use Rattle.line.specs.Line.{EveryInput, CutInput}
 
 -- ---- demand 1
 
 -- "A refused call gives the number that document 01 names and leaves all lent bytes untouched; an accepted one leaves what document 01 states."
 -- Of each call its number, by document 01's conditions in their order; which inputs it accepts; what a refused call gives and leaves beside the
--- number; and what an accepted one does. What Survey, Move and Run do is in demand 2. (The demand's first sentence, on the ends of memory and the
+-- number; and what an accepted one does. What Survey, Move and Run do is in demand 2. Of the program which inputs it runs, which it refuses with 0, and that the bytes that it
+-- reads are enough. (The demand's first sentence, on the ends of memory and the
 -- end of calls, Rattle asks of every function.)
 pub record Demand1 : Type 0 where
   pub check-number : CheckNumber
@@ -49,6 +51,8 @@ pub record Demand1 : Type 0 where
   pub run-number : RunNumber
   pub run-accepts : RunAccepts
   pub run-refuses : RunRefuses
+  pub program : EveryInput
+  pub program-reads : CutInput
 
 -- ---- demand 2
 
@@ -77,8 +81,8 @@ pub record RunMeans (m s tape work ans : List ℕ) (r : RunEffect) : Type 0 wher
   pub start : IsStart m s
   pub entries-are : length tape ≡ 4 * length (entries tape)
   pub entry-is : (d : Entry) (i : ℕ) → 4 * i < length tape → EntryRead tape (4 * i) (getD (entries tape) i d)
-  pub promised : Promised (circuit m) s (entries tape) (config (circuit m) s (entries tape)) (endingOf r) (r .moves) (r .flips) (r .configuration)
-  pub ending : endingOf r
+  pub promised : Promised (circuit m) s (entries tape) (config (circuit m) s (entries tape)) (endingValues r) (r .moves) (r .flips) (r .configuration)
+  pub ending : endingValues r
       ≡ record { accepted = true; number = 0; found = isEmpty (front (circuit m) (r .configuration)); front = frontSize (circuit m) (r .configuration) }
   pub bounds : (r .moves ≤ mostEntries) × ((r .flips ≤ 8 * r .moves) × (r .front ≤ mostGates))
   pub surveyed : take (gateCount m) (r .work) ≡ survey (circuit m) (r .configuration)
@@ -93,7 +97,7 @@ RunDoes = (m s tape work ans : List ℕ) → runEffect m s tape work ans .accept
 -- "Work and answer memory may hold any bytes and have any length that number 14 lets through: ending, moves and flips are the same for all of them.",
 -- and so are the configuration that is left, the survey of an accepted call and the answer of Found.
 pub record SameRun (m : List ℕ) (r r' : RunEffect) : Type 0 where
-  pub ending : endingOf r ≡ endingOf r'
+  pub ending : endingValues r ≡ endingValues r'
   pub moves : r .moves ≡ r' .moves
   pub flips : r .flips ≡ r' .flips
   pub configuration : r .configuration ≡ r' .configuration

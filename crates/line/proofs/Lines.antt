@@ -16,7 +16,7 @@ use Rattle.map.proofs.Accepted.{facts}
 use Rattle.search.specs.Run.{runEffect}
 use Rattle.search.proofs.Endings.{found-passes}
 use Rattle.line.specs.Inner.{Wrote}
-use Rattle.line.specs.Line.{mostInput, inputRoom, tapeAt, mapPart, configurationPart, tapePart, inputTest, refusedLine, runLine, lineOf, inputOf, CutInput, LineOfAll, lineRoom, LineEffect, lineAnswer, lineEffect}
+use Rattle.line.specs.Line.{mostInput, inputRoom, tapePlace, mapPart, configurationPart, tapePart, inputTest, refusedLine, runLine, lineOf, inputOf, CutInput, LineOfAll, lineRoom, LineEffect, lineAnswer, lineEffect}
 use Rattle.line.proofs.Writing.{wrote-over}
 
 -- what Found tells of the map
@@ -27,11 +27,11 @@ found-shaped m s tape work ans f = facts m (found-passes m s tape work ans f) .s
 pub record Whole (x : List ℕ) : Type 0 where
   pub few : length x ≤ mostInput
   pub head : 6 ≤ length x
-  pub exact : length x ≡ tapeAt x + u16At x 4
+  pub exact : length x ≡ tapePlace x + u16At x 4
 
 pub whole : (x : List ℕ) → inputTest x ≡ true → Whole x
 unfolding inputTest
-whole x e = (let q = eqb-true (length x) (tapeAt x + u16At x 4) (and-right _ _ e) in
+whole x e = (let q = eqb-true (length x) (tapePlace x + u16At x 4) (and-right _ _ e) in
     record { few = leb-true _ _ (and-left _ _ e); head = omega arith; exact = q })
 
 -- the line of a whole input, and of any other
@@ -103,7 +103,7 @@ module _ (m s tape : List ℕ) where
   pub parts-whole : 6 + length m + length s + length tape ≤ mostInput → inputTest x ≡ true
   unfolding inputTest
   parts-whole h =
-      let e : length x ≡ tapeAt x + u16At x 4 = omega (arith, input-size, map-size, configuration-size, tape-size) in
+      let e : length x ≡ tapePlace x + u16At x 4 = omega (arith, input-size, map-size, configuration-size, tape-size) in
       and-both _ _ (le-leb (length x) mostInput (rw input-size h)) (eq-eqb _ _ e)
 
 -- ---- the call

@@ -11,7 +11,7 @@ use Rattle.circuit.specs.Evaluate.{rowOf}
 use Rattle.circuit.specs.Run.{EndingValues}
 use Rattle.map.specs.Map.{mostGates, u16At, circuit}
 use Rattle.state.specs.State.{over}
-use Rattle.search.specs.Run.{RunEffect, endingOf, runEffect, Room}
+use Rattle.search.specs.Run.{RunEffect, endingValues, runEffect, Room}
 use Rattle.line.specs.Text.{AreBytes, foundWord, spentWord, refusedWord, blank, lineEnd, digit, decimal}
 
 -- the bytes from place a on, up to before place b
@@ -20,20 +20,20 @@ between a b x = take (b - a) (drop a x)
 
 -- "The program reads three u16 lengths (map, configuration, tape) and the three bodies from standard input": where the configuration and the tape begin,
 -- and the bytes of each
-abbrev pub configurationAt : List ℕ → ℕ
-configurationAt x = 6 + u16At x 0
+abbrev pub configurationPlace : List ℕ → ℕ
+configurationPlace x = 6 + u16At x 0
 
-abbrev pub tapeAt : List ℕ → ℕ
-tapeAt x = 6 + u16At x 0 + u16At x 2
+abbrev pub tapePlace : List ℕ → ℕ
+tapePlace x = 6 + u16At x 0 + u16At x 2
 
 abbrev pub mapPart : List ℕ → List ℕ
-mapPart x = between 6 (configurationAt x) x
+mapPart x = between 6 (configurationPlace x) x
 
 abbrev pub configurationPart : List ℕ → List ℕ
-configurationPart x = between (configurationAt x) (tapeAt x) x
+configurationPart x = between (configurationPlace x) (tapePlace x) x
 
 abbrev pub tapePart : List ℕ → List ℕ
-tapePart x = between (tapeAt x) (length x) x
+tapePart x = between (tapePlace x) (length x) x
 
 -- the longest input, in bytes
 abbrev pub mostInput : ℕ
@@ -41,7 +41,7 @@ mostInput = 65536
 
 -- "the number is 0 if the input passes 65,536 bytes or isn't exactly the 6 bytes and the three lengths together": true where neither is so
 unfoldable pub inputTest : List ℕ → Bool
-inputTest x = leb (length x) mostInput and eqb (length x) (tapeAt x + u16At x 4)
+inputTest x = leb (length x) mostInput and eqb (length x) (tapePlace x + u16At x 4)
 
 -- the work and the answer memory that the program lends Run: 1,024 bytes each, enough for every map, all 0; any others that
 -- number 14 lets through would do (`SameForAllMemories` in demands/specs/Demands.antt, and `SameLineForAllMemories` below)
@@ -61,18 +61,18 @@ abbrev pub foundLine : ℕ → ℕ → List ℕ → List ℕ → List ℕ
 foundLine moves flips m ans = countsText foundWord moves flips ++ (rowText m ans ++ lineEnd)
 
 abbrev pub spentLine : ℕ → ℕ → ℕ → List ℕ
-spentLine front moves flips = countsText spentWord moves flips ++ (decimal front ++ lineEnd)
+spentLine moves flips front = countsText spentWord moves flips ++ (decimal front ++ lineEnd)
 
 abbrev pub refusedLine : ℕ → List ℕ
 refusedLine number = refusedWord ++ (decimal number ++ lineEnd)
 
 -- by what an ending tells, with moves, flips and the answer memory after the run
 abbrev pub report : EndingValues → ℕ → ℕ → List ℕ → List ℕ → List ℕ
-report e moves flips m ans = cond (e .accepted) (cond (e .found) (foundLine moves flips m ans) (spentLine (e .front) moves flips)) (refusedLine (e .number))
+report e moves flips m ans = cond (e .accepted) (cond (e .found) (foundLine moves flips m ans) (spentLine moves flips (e .front))) (refusedLine (e .number))
 
 -- the line of a run's effect
 abbrev pub effectLine : List ℕ → RunEffect → List ℕ
-effectLine m r = report (endingOf r) (r .moves) (r .flips) m (r .answer)
+effectLine m r = report (endingValues r) (r .moves) (r .flips) m (r .answer)
 
 -- the line of the run on these three bodies
 abbrev pub runLine : List ℕ → List ℕ → List ℕ → List ℕ

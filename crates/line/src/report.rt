@@ -64,9 +64,9 @@ fn put_found(map: &[u8], moves: u16, flips: u32, answer: &[u8], out: &mut [u8]) 
 }
 
 // `SPENT moves flips front`
-fn put_spent(front: u16, moves: u16, flips: u32, out: &mut [u8]) -> usize
+fn put_spent(moves: u16, flips: u32, front: u16, out: &mut [u8]) -> usize
     requires { ⌜ lineRoom ≤ length (now out) ⌝ }
-    ensures { λ r. ⌜ Wrote 0 (spentLine front moves flips) (now (out .entry)) (now (out .exit)) r × (r ≤ lineRoom) ⌝ }
+    ensures { λ r. ⌜ Wrote 0 (spentLine moves flips front) (now (out .entry)) (now (out .exit)) r × (r ≤ lineRoom) ⌝ }
 {
     let a = put_counts(b"SPENT ", moves, flips, out);
     let b = text::put_decimal(front as u32, 10, out, a);
@@ -98,7 +98,7 @@ pub fn put_report(
 {
     match ending {
         Ending::Found => put_found(map, moves, flips, answer, out),
-        Ending::Spent(front) => put_spent(front, moves, flips, out),
+        Ending::Spent(front) => put_spent(moves, flips, front, out),
         Ending::Refused(number) => put_refused(number, out),
     }
 }

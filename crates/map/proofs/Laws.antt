@@ -19,7 +19,7 @@ use Rattle.circuit.specs.Gate.{isInput, kindOf}
 use Rattle.circuit.specs.Circuit.{coded}
 use Rattle.circuit.specs.Evaluate.{inputsBefore}
 use Rattle.circuit.proofs.Lists.{place-more}
-use Rattle.map.specs.Map.{mostGates, u16At, childrenAt, gateCount, childCount, codeCount, kindByte, fanIn, firstChild, fanInsBefore, codesAt, codeGate, codeAmong, circuit}
+use Rattle.map.specs.Map.{mostGates, u16At, childrenPlace, gateCount, childCount, codeCount, kindByte, fanIn, firstChild, fanInsBefore, codesPlace, codeGate, codeAmong, circuit}
 use Rattle.map.specs.Check.{offsetsTest, positionTest, positionsTest, childTest, childrenTest, codeTest, freeTest, firstFailed, contentsTests}
 use Rattle.map.specs.Inner.{Shaped, Placed, Sound, CodeMarks}
 
@@ -141,7 +141,7 @@ abbrev pub codeTestBy : List ℕ → ℕ → ℕ → ℕ → ℕ → Bool
 codeTestBy m n start r x =
     ltb x n and (eqb r 0 or ltb (codeGate m (r - 1)) x) and leb (getD m (start + 4 * r + 2) 0) 1 and eqb (getD m (start + 4 * r + 3) 0) 0
 
-pub code-test : (m : List ℕ) (n start r x : ℕ) → n ≡ gateCount m → start ≡ codesAt m → x ≡ codeGate m r → codeTest m r ≡ codeTestBy m n start r x
+pub code-test : (m : List ℕ) (n start r x : ℕ) → n ≡ gateCount m → start ≡ codesPlace m → x ≡ codeGate m r → codeTest m r ≡ codeTestBy m n start r x
 unfolding codeTest
 code-test m n start r x s p q = rw (p, q, s)
 
@@ -158,9 +158,9 @@ sound-of m p a b = record {
 -- ---- test 8, over all children
 
 abbrev pub freeChild : List ℕ → ℕ → Bool
-freeChild m p = not (coded (circuit m) (u16At m (childrenAt m + 2 * p)))
+freeChild m p = not (coded (circuit m) (u16At m (childrenPlace m + 2 * p)))
 
-pub child-in-map : (m : List ℕ) → Sound m → (p : ℕ) → p < childCount m → u16At m (childrenAt m + 2 * p) < gateCount m
+pub child-in-map : (m : List ℕ) → Sound m → (p : ℕ) → p < childCount m → u16At m (childrenPlace m + 2 * p) < gateCount m
 child-in-map m s p l = let o = s .placed .parent p l in rw (← o .is) (omega (arith, o .in-map, s .below (o .gate) (o .place) (o .in-map) (o .in-fan)))
 
 pub free-fails : (m : List ℕ) → Placed m → (p : ℕ) → p < childCount m → freeChild m p ≡ false → false ≡ allBelow (gateCount m) (freeTest m)

@@ -1,20 +1,20 @@
 -- The stretch of a gate's children, from what Children reads. Assumes nothing.
 use Prim.Native.Nat.{ℕ, zero, suc, _+_, _*_, _<_, _≤_}
-use mathlib.Core.Path.{_≡_}
+use mathlib.Core.Path.{_≡_, refl, ap, _∙_}
 use mathlib.Core.Bool.{true, false, false≢true}
 use mathlib.Core.Logic.{inl, inr}
-use mathlib.Core.List.{List}
+use mathlib.Core.List.{List, []}
 use native.Mathlib.Omega.{arith}
-use lib.ListN.{length, take, drop}
-use lib.Seq.{getD-take, getD-drop}
+use lib.ListN.{length, take, drop, length-drop}
+use lib.Seq.{length-take-le, getD-take, getD-drop}
 use borrow.Author.Tests.{eq-eqb, ne-eqb, eqb-true, le-ltb, lt-ltb, ltb-true}
 use denote.Ref.{RefT}
 use Rattle.folds.proofs.Tests.{which, and-left, and-right, and-both, and-first-false, and-second-false}
 use Rattle.circuit.specs.Gate.{isInput, kindOf}
-use Rattle.map.specs.Map.{u16At, gateCount, childrenAt, kindByte, fanIn, firstChild, childAt}
+use Rattle.map.specs.Map.{u16At, gateCount, childrenPlace, kindByte, fanIn, firstChild, childAt}
 use Rattle.kinds.specs.Kinds.{kindFits}
 use Rattle.map.specs.Check.{kindTest, verdict}
-use Rattle.map.specs.Children.{hasGate, stretchAt, stretchLength, childrenAnswer, childrenEffect, ChildrenDoes}
+use Rattle.map.specs.Children.{hasGate, stretchPlace, stretchLength, childrenAnswer, childrenEffect, ChildrenDoes}
 use Rattle.map.proofs.Accepted.{facts}
 
 -- ---- which gates have one
@@ -35,13 +35,13 @@ has-gate m g v h = and-both _ _ (eq-eqb (verdict m) 0 v) (lt-ltb g (gateCount m)
 
 pub empty-part : (m r : RefT (List ℕ)) (g : ℕ) → r .ptr ≡ (m .ptr .0, 0 + m .ptr .1) → r .now ≡ take 0 (drop 0 (m .now)) → hasGate (m .now) g ≡ false
     → childrenAnswer r ≡ childrenEffect m g
-unfolding stretchAt stretchLength childrenAnswer childrenEffect
+unfolding stretchPlace stretchLength childrenAnswer childrenEffect
 empty-part m r g p b h = rw (h, p, b)
 
 pub whole-part : (m r : RefT (List ℕ)) (g a n : ℕ) → r .ptr ≡ (m .ptr .0, a + m .ptr .1) → r .now ≡ take n (drop a (m .now))
-    → a ≡ childrenAt (m .now) + 2 * firstChild (m .now) g → n ≡ 2 * fanIn (m .now) g → hasGate (m .now) g ≡ true
+    → a ≡ childrenPlace (m .now) + 2 * firstChild (m .now) g → n ≡ 2 * fanIn (m .now) g → hasGate (m .now) g ≡ true
     → childrenAnswer r ≡ childrenEffect m g
-unfolding stretchAt stretchLength childrenAnswer childrenEffect
+unfolding stretchPlace stretchLength childrenAnswer childrenEffect
 whole-part m r g a n p b s l h = rw (h, ← s, ← l, p, b)
 
 -- ---- what the stretch holds
@@ -58,16 +58,16 @@ module _ (m : List ℕ) (g : ℕ) where
       let q : a + (i + 1) ≡ b + 1 = omega arith in
       rw (getD-take n (drop a m) i 0 (omega arith), getD-take n (drop a m) (i + 1) 0 l, getD-drop a m i 0, getD-drop a m (i + 1) 0, q, e)
 
-  stretch-place : hasGate m g ≡ true → stretchAt m g ≡ childrenAt m + 2 * firstChild m g
-  unfolding stretchAt
+  pub stretch-place : hasGate m g ≡ true → stretchPlace m g ≡ childrenPlace m + 2 * firstChild m g
+  unfolding stretchPlace
   stretch-place h = rw h
 
-  stretch-long : hasGate m g ≡ true → stretchLength m g ≡ 2 * fanIn m g
+  pub stretch-long : hasGate m g ≡ true → stretchLength m g ≡ 2 * fanIn m g
   unfolding stretchLength
   stretch-long h = rw h
 
-  stretch-holds : hasGate m g ≡ true → (j : ℕ) → j < fanIn m g → u16At (take (stretchLength m g) (drop (stretchAt m g) m)) (2 * j) ≡ childAt m g j
-  stretch-holds h j l = rw (stretch-place h, stretch-long h) (part-word (childrenAt m + 2 * firstChild m g) (2 * fanIn m g) (2 * j) _ (omega arith) (omega arith))
+  stretch-holds : hasGate m g ≡ true → (j : ℕ) → j < fanIn m g → u16At (take (stretchLength m g) (drop (stretchPlace m g) m)) (2 * j) ≡ childAt m g j
+  stretch-holds h j l = rw (stretch-place h, stretch-long h) (part-word (childrenPlace m + 2 * firstChild m g) (2 * fanIn m g) (2 * j) _ (omega arith) (omega arith))
 
   gate-of : hasGate m g ≡ true → (verdict m ≡ 0) × (g < gateCount m)
   unfolding hasGate
@@ -88,20 +88,28 @@ module _ (m : List ℕ) (g : ℕ) where
     | inr h ↦ rw h
   ]
 
-  stretch-within : stretchAt m g + stretchLength m g ≤ length m
-  unfolding stretchAt stretchLength
+  stretch-within : stretchPlace m g + stretchLength m g ≤ length m
+  unfolding stretchPlace stretchLength
   stretch-within = elim (which (hasGate m g)) [
     | inl h ↦ (let (v, l) = gate-of h in let p = facts m v .sound .placed in rw h (omega (arith, p .within g l, p .shaped .long)))
     | inr h ↦ rw h (omega arith)
   ]
 
+  bytes-long : length (take (stretchLength m g) (drop (stretchPlace m g) m)) ≡ stretchLength m g
+  bytes-long = length-take-le (stretchLength m g) (drop (stretchPlace m g) m) (omega (arith, length-drop (stretchPlace m g) m, stretch-within))
+
+  no-bytes : stretchLength m g ≡ 0 → take (stretchLength m g) (drop (stretchPlace m g) m) ≡ []
+  no-bytes e = rw e
+
 pub children-does : ChildrenDoes
+unfolding childrenEffect
 children-does m g = record {
-  place = λ v l. stretch-place m g (has-gate m g v l);
-  long = λ v l. stretch-long m g (has-gate m g v l);
-  within = stretch-within m g;
-  holds = λ v l. stretch-holds m g (has-gate m g v l);
-  input = stretch-input m g;
-  past-end = λ h. stretch-none m g (past-end m g h);
-  refused = λ h. stretch-none m g (no-map m g h);
+  block = refl;
+  within = (omega arith, omega (arith, bytes-long (m .now) g, stretch-within (m .now) g));
+  place = λ v l. ap (λ (n : ℕ). n + m .ptr .1) (stretch-place (m .now) g (has-gate (m .now) g v l));
+  long = λ v l. bytes-long (m .now) g ∙ stretch-long (m .now) g (has-gate (m .now) g v l);
+  holds = λ v l. stretch-holds (m .now) g (has-gate (m .now) g v l);
+  input = λ i. no-bytes (m .now) g (stretch-input (m .now) g i);
+  past-end = λ h. no-bytes (m .now) g (stretch-none (m .now) g (past-end (m .now) g h));
+  refused = λ h. no-bytes (m .now) g (stretch-none (m .now) g (no-map (m .now) g h));
 }

@@ -30,14 +30,14 @@ codeCount m = u16At m 10
 
 -- "Bodies follow in that order without gaps, so the offsets are 12, 12 + 4 × gates, and that plus 2 × children; the length is the last offset plus
 -- 4 × codes.": as whole numbers, never modulo 65,536
-abbrev pub childrenAt : List ℕ → ℕ
-childrenAt m = 12 + 4 * gateCount m
+abbrev pub childrenPlace : List ℕ → ℕ
+childrenPlace m = 12 + 4 * gateCount m
 
-abbrev pub codesAt : List ℕ → ℕ
-codesAt m = childrenAt m + 2 * childCount m
+abbrev pub codesPlace : List ℕ → ℕ
+codesPlace m = childrenPlace m + 2 * childCount m
 
 abbrev pub lengthGiven : List ℕ → ℕ
-lengthGiven m = codesAt m + 4 * codeCount m
+lengthGiven m = codesPlace m + 4 * codeCount m
 
 -- "Gate record, 4 bytes: kind, fan-in, first child position (u16)."
 abbrev pub kindByte : List ℕ → ℕ → ℕ
@@ -56,20 +56,20 @@ fanInsBefore m (suc g) = fanInsBefore m g + fanIn m g
 
 -- "Child: u16, the number of a gate, counted from 0.": gate g's child number j
 abbrev pub childAt : List ℕ → ℕ → ℕ → ℕ
-childAt m g j = u16At m (childrenAt m + 2 * (firstChild m g + j))
+childAt m g j = u16At m (childrenPlace m + 2 * (firstChild m g + j))
 
 -- "Code record, 4 bytes: gate (u16), value 0 or 1, and a zero byte.": code number r
-abbrev pub codeAt : List ℕ → ℕ → ℕ
-codeAt m r = codesAt m + 4 * r
+abbrev pub codePlace : List ℕ → ℕ → ℕ
+codePlace m r = codesPlace m + 4 * r
 
 abbrev pub codeGate : List ℕ → ℕ → ℕ
-codeGate m r = u16At m (codeAt m r)
+codeGate m r = u16At m (codePlace m r)
 
 abbrev pub codeValue : List ℕ → ℕ → ℕ
-codeValue m r = getD m (codeAt m r + 2) 0
+codeValue m r = getD m (codePlace m r + 2) 0
 
 abbrev pub codeZero : List ℕ → ℕ → ℕ
-codeZero m r = getD m (codeAt m r + 3) 0
+codeZero m r = getD m (codePlace m r + 3) 0
 
 -- ---- the circuit
 

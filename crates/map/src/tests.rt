@@ -7,7 +7,7 @@ ghost use Prim.Native.Nat.{_-_, _<_, _≤_};
 ghost use lib.ListN.{length};
 ghost use lib.Dec.{eqb, ltb};
 ghost use Rattle.folds.specs.Folds.{_or_, allBelow};
-ghost use Rattle.map.specs.Map.{mostGates, gateCount, codeCount, codesAt, fanIn, codeGate};
+ghost use Rattle.map.specs.Map.{mostGates, gateCount, codeCount, codesPlace, fanIn, codeGate};
 ghost use Rattle.map.specs.Check.{offsetsTest, kindTest, positionsTest, childTest, childrenTest, codeTest, freeTest};
 ghost use Rattle.map.specs.Check.{firstFailed, contentsTests, bodiesTests, verdict};
 ghost use Rattle.map.specs.Inner.{ContentsOf, Shaped, Placed, Sound, CodeMarks};
@@ -121,7 +121,7 @@ fn all_children_ok(map: &[u8], n: Contents) -> bool
 
 // Is the gate x of code r above the one before?
 fn code_ascends(map: &[u8], start: usize, r: usize, x: usize) -> bool
-    requires { ⌜ Shaped (now map) × ((start ≡ codesAt (now map)) × (r < codeCount (now map))) ⌝ }
+    requires { ⌜ Shaped (now map) × ((start ≡ codesPlace (now map)) × (r < codeCount (now map))) ⌝ }
     ensures { λ r'. ⌜ r' ≡ (eqb r 0 or ltb (codeGate (now (map .entry)) (r - 1)) x) ⌝ }
 {
     if r == 0 {
@@ -133,7 +133,7 @@ fn code_ascends(map: &[u8], start: usize, r: usize, x: usize) -> bool
 // Test 7 at code r.
 fn code_ok(map: &[u8], n: Contents, start: usize, r: usize) -> bool
     requires { ⌜ ContentsOf (now map) n ⌝ }
-    requires { ⌜ Shaped (now map) × ((start ≡ codesAt (now map)) × (r < n .codes)) ⌝ }
+    requires { ⌜ Shaped (now map) × ((start ≡ codesPlace (now map)) × (r < n .codes)) ⌝ }
     ensures { λ r'. ⌜ r' ≡ codeTest (now (map .entry)) r ⌝ }
 {
     let x = decode::code_gate(map, start, r);
@@ -153,7 +153,7 @@ fn code_ok(map: &[u8], n: Contents, start: usize, r: usize) -> bool
 // Test 7.
 fn codes_ok(map: &[u8], n: Contents, start: usize) -> bool
     requires { ⌜ ContentsOf (now map) n ⌝ }
-    requires { ⌜ Shaped (now map) × (start ≡ codesAt (now map)) ⌝ }
+    requires { ⌜ Shaped (now map) × (start ≡ codesPlace (now map)) ⌝ }
     ensures { λ r. ⌜ r ≡ allBelow (codeCount (now (map .entry))) (codeTest (now (map .entry))) ⌝ }
 {
     let codes = n.codes;
@@ -189,7 +189,7 @@ fn all_free(map: &[u8], n: Contents, marks: &[u8]) -> bool
 // Test 8.
 fn free_ok(map: &[u8], n: Contents, start: usize) -> bool
     requires { ⌜ ContentsOf (now map) n ⌝ }
-    requires { ⌜ Sound (now map) × (start ≡ codesAt (now map)) ⌝ }
+    requires { ⌜ Sound (now map) × (start ≡ codesPlace (now map)) ⌝ }
     ensures { λ r. ⌜ r ≡ allBelow (gateCount (now (map .entry))) (freeTest (now (map .entry))) ⌝ }
 {
     let mut marks = [0u8; MOST_GATES];

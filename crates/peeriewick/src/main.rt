@@ -1,5 +1,6 @@
 // The program: reads a map, a configuration and a tape from standard input and prints the line of the run on them.
-// It only reads and writes: what it hands to `write_all` is the line for all of standard input, as `line_of` says.
+// It only reads and writes. What it hands to `write_all` is the line for all of standard input, as `line_of` says, if `read_full` reads until its memory is full or the
+// input ends: what a read brings no contract says, and the tests see it.
 use libc::STDIN_FILENO;
 use libc::STDOUT_FILENO;
 use line::INPUT_ROOM;
@@ -9,8 +10,8 @@ ghost use Prim.Native.Nat.{_≤_};
 ghost use lib.ListN.{length, take};
 ghost use Rattle.line.specs.Line.{inputRoom, lineRoom, LineOfAll};
 
-// The line for standard input, of which `buf` took the first n bytes, written into the first bytes of `out`. A byte more than an input may have
-// is needed there, and enough (`CutInput`).
+// The line for standard input, of which `buf` took the first n bytes, written into the first bytes of `out`. `buf` has a byte more than an input may have: that is
+// needed, and enough (`CutInput`).
 fn line_of<'a>(buf: &[u8], n: usize, out: &'a mut [u8]) -> &'a [u8]
     requires { ⌜ (length (now buf) ≡ inputRoom) × (n ≤ length (now buf)) ⌝ }
     requires { ⌜ lineRoom ≤ length (now out) ⌝ }
@@ -21,15 +22,16 @@ fn line_of<'a>(buf: &[u8], n: usize, out: &'a mut [u8]) -> &'a [u8]
     &all[..size]
 }
 
-fn print_line(buf: &[u8], n: usize)
-    requires { ⌜ (length (now buf) ≡ inputRoom) × (n ≤ length (now buf)) ⌝ }
+// Reads into all of `buf`, and prints the line.
+fn answer(buf: &mut [u8])
+    requires { ⌜ length (now buf) ≡ inputRoom ⌝ }
 {
+    let n = io::read_full(STDIN_FILENO, buf);
     let mut out = [0u8; LINE_ROOM];
     io::write_all(STDOUT_FILENO, line_of(buf, n, &mut out));
 }
 
 fn main() {
     let mut buf = [0u8; INPUT_ROOM];
-    let n = io::read_full(STDIN_FILENO, &mut buf);
-    print_line(&buf, n);
+    answer(&mut buf);
 }

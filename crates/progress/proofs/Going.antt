@@ -20,7 +20,7 @@ use Rattle.circuit.specs.Survey.{frontSize}
 use Rattle.circuit.specs.Run.{move, RunResult, stop, after, run}
 use Rattle.circuit.proofs.Moves.{entry-done}
 use Rattle.circuit.proofs.Trace.{run-found, run-spent, run-step}
-use Rattle.tape.specs.Tape.{entryAt, entriesFrom, entries, tapeTest}
+use Rattle.tape.specs.Tape.{entryAt, entriesFrom, entries, tapeLengthTest}
 use Rattle.tape.specs.Inner.{stepAt}
 use Rattle.progress.specs.Advance.{adds, Going, Ends}
 use Rattle.tape.specs.declared.Step.the-variants.{Next, End}
@@ -41,8 +41,8 @@ unfolding entriesFrom
 entries-more t at n = refl
 
 module _ (c : Circuit) (start tape : List ℕ) where
-  pub run-begins : KeepsCodes c start → tapeTest tape ≡ true → Going c start tape 0 0 0 start
-  unfolding tapeTest entries
+  pub run-begins : KeepsCodes c start → tapeLengthTest tape ≡ true → Going c start tape 0 0 0 start
+  unfolding tapeLengthTest entries
   run-begins k e = record {
     left = length tape / 4;
     place = (let a = eqb-true (length tape % 4) 0 (and-left _ _ e) in omega arith);

@@ -7,20 +7,20 @@ use Rattle.circuit.specs.Evaluate.{KeepsCodes}
 use Rattle.map.specs.Map.{circuit}
 use Rattle.map.specs.Check.{firstFailed}
 use Rattle.state.specs.State.{HasRoom}
-use Rattle.tape.specs.Tape.{kindsTest}
+use Rattle.tape.specs.Tape.{entryKindsTest}
 use Rattle.progress.specs.Advance.{Begins}
 use Rattle.search.specs.Move.{frontTest, moveTests, MoveEffect, moveBy, FourBytes}
 use Rattle.search.specs.Run.{runTests, RunEffect, runBy, Room}
 
 pub record RunTested (m s tape work ans : List ℕ) : Type 0 where
   pub begins : Begins m s tape
-  pub kinds : kindsTest tape ≡ true
+  pub kinds : entryKindsTest tape ≡ true
   pub room : Room m work ans
 
 pub record MoveTested (m s entry work : List ℕ) : Type 0 where
   pub keeps : KeepsCodes (circuit m) s
   pub four : FourBytes entry
-  pub kinds : kindsTest entry ≡ true
+  pub kinds : entryKindsTest entry ≡ true
   pub room : HasRoom m work
 
 -- Move behind the map's tests, and behind all but 15

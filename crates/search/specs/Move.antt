@@ -18,7 +18,7 @@ use Rattle.state.specs.State.{over, HasRoom}
 use Rattle.survey.specs.Survey.{startTests, IsStart, StartNumber}
 use Rattle.search.specs.declared.Moved.{Moved}
 use Rattle.search.specs.declared.Moved.the-variants.{Done, Refused}
-use Rattle.tape.specs.Tape.{entryAt, EntryRead, kindsTest, KindAllowed}
+use Rattle.tape.specs.Tape.{entryAt, EntryRead, entryKindsTest, EntryKindAllowed}
 
 -- ---- the tests
 
@@ -29,7 +29,7 @@ frontTest m s = not (isEmpty (front (circuit m) s))
 -- 12 for Move: "The tape's length isn't a multiple of 4, is above 65,532 or, for Move, isn't 4."; 13; and "14. .. work .. memory is shorter than the
 -- gate count."
 unfoldable pub entryTests : List ℕ → List ℕ → List ℕ → List (ℕ × Bool)
-entryTests m entry work = (12, eqb (length entry) 4) ∷ (13, kindsTest entry) ∷ (14, leb (gateCount m) (length work)) ∷ []
+entryTests m entry work = (12, eqb (length entry) 4) ∷ (13, entryKindsTest entry) ∷ (14, leb (gateCount m) (length work)) ∷ []
 
 -- Move's tests behind the map's: 9 to 11, these, and 15
 unfoldable pub moveTests : List ℕ → List ℕ → List ℕ → List ℕ → List (ℕ × Bool)
@@ -90,17 +90,18 @@ pub record MoveMeans (m s entry work : List ℕ) (r : MoveEffect) : Type 0 where
 abbrev pub MoveDoes : Type 0
 MoveDoes = (m s entry work : List ℕ) → moveEffect m s entry work .accepted ≡ true → MoveMeans m s entry work (moveEffect m s entry work)
 
--- Move is accepted exactly for starts, an entry of 4 bytes with a kind up to 2, memory that is long enough, and a front that is not empty.
+-- what numbers 12 and 15 let through
 abbrev pub FourBytes : List ℕ → Type 0
 FourBytes entry = length entry ≡ 4
 
 abbrev pub SomeFront : List ℕ → List ℕ → Type 0
 SomeFront m s = ¬ NoFront (circuit m) s
 
+-- Move is accepted exactly for starts, an entry of 4 bytes with a kind up to 2, memory that is long enough, and a front that is not empty.
 pub record Movable (m s entry work : List ℕ) : Type 0 where
   pub start : IsStart m s
   pub four-bytes : FourBytes entry
-  pub kind : KindAllowed entry 0
+  pub kind : EntryKindAllowed entry 0
   pub room : HasRoom m work
   pub some-front : SomeFront m s
 
@@ -111,7 +112,7 @@ MoveAccepts = (m s entry work : List ℕ) → (moveEffect m s entry work .accept
 abbrev pub EntryNumber : ℕ → List ℕ → List ℕ → List ℕ → List ℕ → Type 0
 EntryNumber n m s entry work =
     Test n 12 (FourBytes entry) (
-    Test n 13 (KindAllowed entry 0) (
+    Test n 13 (EntryKindAllowed entry 0) (
     Test n 14 (HasRoom m work) (
     Test n 15 (SomeFront m s) (n ≡ 0))))
 

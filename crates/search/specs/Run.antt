@@ -17,13 +17,13 @@ use Rattle.map.specs.Map.{gateCount, circuit}
 use Rattle.map.specs.Check.{firstFailed, mapTests, Test, MapNumber}
 use Rattle.state.specs.State.{over, HasRoom}
 use Rattle.survey.specs.Survey.{startTests, IsStart, StartNumber}
-use Rattle.tape.specs.Tape.{entries, tapeTest, kindsTest, LengthAllowed, EntriesAllowed}
+use Rattle.tape.specs.Tape.{entries, tapeLengthTest, entryKindsTest, LengthAllowed, EntriesAllowed}
 
 -- ---- the tests
 
 -- "12. The tape's length isn't a multiple of 4, is above 65,532", 13, and "14. .. work or answer memory is shorter than the gate count."
 unfoldable pub tapeTests : List ℕ → List ℕ → List ℕ → List ℕ → List (ℕ × Bool)
-tapeTests m tape work ans = (12, tapeTest tape) ∷ (13, kindsTest tape) ∷ (14, leb (gateCount m) (length work) and leb (gateCount m) (length ans)) ∷ []
+tapeTests m tape work ans = (12, tapeLengthTest tape) ∷ (13, entryKindsTest tape) ∷ (14, leb (gateCount m) (length work) and leb (gateCount m) (length ans)) ∷ []
 
 -- Run's tests behind the map's: 9 to 11, and these
 unfoldable pub runTests : List ℕ → List ℕ → List ℕ → List ℕ → List ℕ → List (ℕ × Bool)
@@ -45,8 +45,8 @@ pub record RunEffect : Type 0 where
   pub answer : List ℕ
 
 -- what its ending tells
-abbrev pub endingOf : RunEffect → EndingValues
-endingOf r = record { accepted = r .accepted; number = r .number; found = r .found; front = r .front }
+abbrev pub endingValues : RunEffect → EndingValues
+endingValues r = record { accepted = r .accepted; number = r .number; found = r .found; front = r .front }
 
 -- of the record that is returned, beside the memories: `told` has the number and values of each case of its ending
 unfoldable pub runAnswer : Outcome → List ℕ → List ℕ → List ℕ → RunEffect

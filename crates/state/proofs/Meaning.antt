@@ -49,7 +49,7 @@ module _ (m row out : List ℕ) where
   unfolding evaluateEffect evaluateBy
   accepted e = rw (eq-eqb row-number 0 e)
 
-  written : row-number ≡ 0 → evaluateEffect m row out .out ≡ over (evaluate (circuit m) row) out
+  written : row-number ≡ 0 → evaluateEffect m row out ≡ record { accepted = true; number = 0; out = over (evaluate (circuit m) row) out }
   unfolding evaluateEffect evaluateBy
   written e = rw (eq-eqb row-number 0 e)
 
@@ -80,6 +80,7 @@ evaluate-does m row out e =
     let l : length (evaluate (circuit m) row) ≡ gateCount m = w .configuration .long in
     let first = over-first (evaluate (circuit m) row) out (gateCount m) l in
     rw (written m row out n) (record {
+      number = refl;
       values = rw first w;
       only = λ s h. only s h ∙ sym first;
       surplus = over-rest (evaluate (circuit m) row) out (gateCount m) l;

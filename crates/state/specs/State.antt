@@ -93,14 +93,15 @@ markEffect m s = markBy (firstFailed (mapTests m ++ configurationTests m s)) m s
 -- ---- what they mean
 
 -- The first bytes of the output memory, one per gate, are the one configuration that obeys every gate and has the row's values; the surplus stands.
-pub record EvaluateMeans (m row out after : List ℕ) : Type 0 where
-  pub values : Evaluated (circuit m) row (take (gateCount m) after)
-  pub only : (s : List ℕ) → Evaluated (circuit m) row s → s ≡ take (gateCount m) after
-  pub surplus : drop (gateCount m) after ≡ drop (gateCount m) out
-  pub long : length after ≡ length out
+pub record EvaluateMeans (m row out : List ℕ) (r : EvaluateEffect) : Type 0 where
+  pub number : r .number ≡ 0
+  pub values : Evaluated (circuit m) row (take (gateCount m) (r .out))
+  pub only : (s : List ℕ) → Evaluated (circuit m) row s → s ≡ take (gateCount m) (r .out)
+  pub surplus : drop (gateCount m) (r .out) ≡ drop (gateCount m) out
+  pub long : length (r .out) ≡ length out
 
 abbrev pub EvaluateDoes : Type 0
-EvaluateDoes = (m row out : List ℕ) → evaluateEffect m row out .accepted ≡ true → EvaluateMeans m row out (evaluateEffect m row out .out)
+EvaluateDoes = (m row out : List ℕ) → evaluateEffect m row out .accepted ≡ true → EvaluateMeans m row out (evaluateEffect m row out)
 
 -- "Such a configuration is a satisfying assignment.": one to which Mark says yes
 abbrev pub Satisfies : List ℕ → List ℕ → Type 0

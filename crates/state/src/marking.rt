@@ -10,7 +10,7 @@ ghost use lib.ListN.{length, getD};
 ghost use lib.Dec.{eqb};
 ghost use Rattle.folds.specs.Folds.{allBelow};
 ghost use Rattle.circuit.specs.Circuit.{justified};
-ghost use Rattle.map.specs.Map.{gateCount, codesAt, codeGate, codeValue, circuit};
+ghost use Rattle.map.specs.Map.{gateCount, codesPlace, codeGate, codeValue, circuit};
 ghost use Rattle.map.specs.Inner.{Counted};
 ghost use Rattle.state.specs.State.{markAnswer};
 ghost use Rattle.state.specs.Inner.{markOnMap, shownByRecord};
@@ -35,7 +35,7 @@ fn gates_right(map: &[u8], counts: Counts, s: &[u8]) -> bool
 // Does the gate of code r have its value?
 fn code_shown(map: &[u8], counts: Counts, start: usize, r: usize, s: &[u8]) -> bool
     requires { ⌜ Counted (now map) counts ⌝ }
-    requires { ⌜ (start ≡ codesAt (now map)) × ((r < counts .codes) × (counts .gates ≤ length (now s))) ⌝ }
+    requires { ⌜ (start ≡ codesPlace (now map)) × ((r < counts .codes) × (counts .gates ≤ length (now s))) ⌝ }
     ensures { λ r'. ⌜ r' ≡ eqb (getD (now (s .entry)) (codeGate (now (map .entry)) r) 0) (codeValue (now (map .entry)) r) ⌝ }
 {
     let x = decode::code_gate(map, start, r);

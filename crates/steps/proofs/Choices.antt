@@ -23,7 +23,7 @@ use Rattle.kinds.proofs.ByPlace.{options-by}
 use Rattle.state.proofs.Filling.{store}
 use Rattle.picks.specs.Picks.{bests, bestAt}
 use Rattle.picks.proofs.Best.{some-best, best-below}
-use Rattle.steps.specs.Options.{optionsOf, optionHas, optionUpTo, optionGates, weightsOf, interestAfter}
+use Rattle.steps.specs.Options.{optionCountOf, optionHas, optionUpTo, optionGates, weightsOf, interestAfter}
 
 -- ---- lists of images
 
@@ -46,20 +46,20 @@ pick-image f d xs i h = rw (length-map xs f) (getD-image f d xs (i % length xs) 
 -- ---- the options
 
 module _ (m s : List ℕ) (g : ℕ) where
-  pub down-options : downOptions (circuit m) s g ≡ map (optionGates m s g) (upTo (optionsOf m s g))
-  unfolding downOptions kidsOf optionsOf optionUpTo optionHas
+  pub down-options : downOptions (circuit m) s g ≡ map (optionGates m s g) (upTo (optionCountOf m s g))
+  unfolding downOptions kidsOf optionCountOf optionUpTo optionHas
   down-options = options-by (kindOf (kindByte m g)) (on s g) (on s) (λ j. childAt m g j) (fanIn m g)
 
-  count-is : length (downOptions (circuit m) s g) ≡ optionsOf m s g
-  count-is = ap length down-options ∙ length-map (upTo (optionsOf m s g)) (optionGates m s g) ∙ length-upTo (optionsOf m s g)
+  count-is : length (downOptions (circuit m) s g) ≡ optionCountOf m s g
+  count-is = ap length down-options ∙ length-map (upTo (optionCountOf m s g)) (optionGates m s g) ∙ length-upTo (optionCountOf m s g)
 
   -- an unjustified gate has an option, and at most eight
-  pub some-options : IsMap m → g < gateCount m → justified (circuit m) s g ≡ false → (1 ≤ optionsOf m s g) × (optionsOf m s g ≤ 8)
+  pub some-options : IsMap m → g < gateCount m → justified (circuit m) s g ≡ false → (1 ≤ optionCountOf m s g) × (optionCountOf m s g ≤ 8)
   some-options k h u = rw (← count-is) (option-few (circuit m) (well-formed m k) s g h u)
 
-  pub option-is : (i : ℕ) → 1 ≤ optionsOf m s g → optionAt (circuit m) s g i ≡ optionGates m s g (i % optionsOf m s g)
+  pub option-is : (i : ℕ) → 1 ≤ optionCountOf m s g → optionAt (circuit m) s g i ≡ optionGates m s g (i % optionCountOf m s g)
   unfolding optionAt
-  option-is i h = rw (count-is) (ap (λ (os : List (List ℕ)). getD os (i % optionsOf m s g) []) down-options ∙ map-at (optionGates m s g) (optionsOf m s g) (i % optionsOf m s g) [] (mod-lt i h))
+  option-is i h = rw (count-is) (ap (λ (os : List (List ℕ)). getD os (i % optionCountOf m s g) []) down-options ∙ map-at (optionGates m s g) (optionCountOf m s g) (i % optionCountOf m s g) [] (mod-lt i h))
 
   -- ---- greedy
 
@@ -81,18 +81,18 @@ module _ (m s : List ℕ) (g : ℕ) where
   best-weights rest n = select-same _ _ (upTo n) (λ i j. all-same _ _ (upTo n) (λ k l.
       rw (weights-at rest n i (in-upTo i n j), weights-at rest n k (in-upTo k n l))))
 
-  pub greedy-is : (rest : List ℕ) (i j : ℕ) → bestAt (weightsOf (interestAfter m s) m s g (optionsOf m s g) ++ rest) (optionsOf m s g) i ≡ j → 1 ≤ optionsOf m s g
+  pub greedy-is : (rest : List ℕ) (i j : ℕ) → bestAt (weightsOf (interestAfter m s) m s g (optionCountOf m s g) ++ rest) (optionCountOf m s g) i ≡ j → 1 ≤ optionCountOf m s g
       → chosen (circuit m) s g (Greedy i) ≡ optionGates m s g j
   unfolding chosen bestAt
   greedy-is rest i j e h =
       ap (λ (os : List (List ℕ)). pick (greedyOptions (circuit m) s os) i []) down-options
-      ∙ ap (λ (os : List (List ℕ)). pick os i []) (best-options (optionsOf m s g) ∙ ap (map (optionGates m s g)) (best-weights rest (optionsOf m s g)))
-      ∙ pick-image (optionGates m s g) [] (bests (weightsOf (interestAfter m s) m s g (optionsOf m s g) ++ rest) (optionsOf m s g)) i (some-best (weightsOf (interestAfter m s) m s g (optionsOf m s g) ++ rest) (optionsOf m s g) h)
+      ∙ ap (λ (os : List (List ℕ)). pick os i []) (best-options (optionCountOf m s g) ∙ ap (map (optionGates m s g)) (best-weights rest (optionCountOf m s g)))
+      ∙ pick-image (optionGates m s g) [] (bests (weightsOf (interestAfter m s) m s g (optionCountOf m s g) ++ rest) (optionCountOf m s g)) i (some-best (weightsOf (interestAfter m s) m s g (optionCountOf m s g) ++ rest) (optionCountOf m s g) h)
       ∙ ap (optionGates m s g) e
 
   -- a single option is the best
-  pub greedy-one : (i : ℕ) → optionsOf m s g ≡ 1 → chosen (circuit m) s g (Greedy i) ≡ optionGates m s g 0
-  greedy-one i e = let b = best-below (weightsOf (interestAfter m s) m s g (optionsOf m s g) ++ []) (optionsOf m s g) i (omega arith) in greedy-is [] i 0 (omega arith) (omega arith)
+  pub greedy-one : (i : ℕ) → optionCountOf m s g ≡ 1 → chosen (circuit m) s g (Greedy i) ≡ optionGates m s g 0
+  greedy-one i e = let b = best-below (weightsOf (interestAfter m s) m s g (optionCountOf m s g) ++ []) (optionCountOf m s g) i (omega arith) in greedy-is [] i 0 (omega arith) (omega arith)
 
   -- ---- the loop that weighs
 

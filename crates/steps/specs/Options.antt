@@ -11,8 +11,8 @@ use Rattle.map.specs.Map.{kindByte, fanIn, childAt, circuit}
 use Rattle.kinds.specs.Kinds.{optionCount, optionTurns}
 
 -- how many options gate g of the map m has in s
-unfoldable pub optionsOf : List ℕ → List ℕ → ℕ → ℕ
-optionsOf m s g = optionCount (kindOf (kindByte m g)) (on s g) (fanIn m g)
+unfoldable pub optionCountOf : List ℕ → List ℕ → ℕ → ℕ
+optionCountOf m s g = optionCount (kindOf (kindByte m g)) (on s g) (fanIn m g)
 
 -- does option i of gate g turn its child j
 unfoldable pub optionHas : List ℕ → List ℕ → ℕ → ℕ → ℕ → Bool

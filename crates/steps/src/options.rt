@@ -13,7 +13,7 @@ ghost use Rattle.circuit.specs.Circuit.{on};
 ghost use Rattle.circuit.specs.Run.{turn};
 ghost use Rattle.kinds.specs.Kinds.{optionTurns};
 ghost use Rattle.map.specs.Inner.{Counted};
-ghost use Rattle.steps.specs.Options.{optionsOf, optionGates};
+ghost use Rattle.steps.specs.Options.{optionCountOf, optionGates};
 ghost use Rattle.steps.specs.Steps.{Flipped};
 
 // The other value.
@@ -49,7 +49,7 @@ fn flip_child(kind: u8, v: bool, i: usize, j: usize, x: usize, s: &mut [u8]) -> 
 pub fn count(map: &[u8], counts: Counts, g: usize, s: &[u8]) -> usize
     requires { ⌜ Counted (now map) counts ⌝ }
     requires { ⌜ (g < counts .gates) × (counts .gates ≤ length (now s)) ⌝ }
-    ensures { λ r. ⌜ r ≡ optionsOf (now (map .entry)) (now (s .entry)) g ⌝ }
+    ensures { λ r. ⌜ r ≡ optionCountOf (now (map .entry)) (now (s .entry)) g ⌝ }
 {
     let kind = decode::kind(map, g);
     let fan = decode::fan_in(map, g);

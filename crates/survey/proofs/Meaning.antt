@@ -67,6 +67,7 @@ survey-does m s out e =
     let l : length (survey (circuit m) s) ≡ gateCount m = f .long in
     let long = over-long (survey (circuit m) s) out (gateCount m) l (leb-true (gateCount m) (length out) r) in
     rw (written m s out n) (record {
+      number = refl;
       start = record { accepted = v; keeps = start-of m s k };
       room = omega (arith, long, leb-true (gateCount m) (length out) r);
       bytes = λ g h. record {

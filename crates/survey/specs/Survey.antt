@@ -21,12 +21,12 @@ use Rattle.survey.specs.declared.Surveyed.the-variants.{Done, Refused}
 -- ---- the tests
 
 -- "11. For Survey, Move and Run: a coded gate's value isn't its code.": true where each coded gate's value is its code
-unfoldable pub codesTest : List ℕ → List ℕ → Bool
-codesTest m s = allBelow (gateCount m) (λ g. showsCode (circuit m .code g) (on s g))
+unfoldable pub codesShownTest : List ℕ → List ℕ → Bool
+codesShownTest m s = allBelow (gateCount m) (λ g. showsCode (circuit m .code g) (on s g))
 
 -- 9, 10 and 11: a configuration from which a search may start. Survey's is tested like a start.
 unfoldable pub startTests : List ℕ → List ℕ → List (ℕ × Bool)
-startTests m s = configurationTests m s ++ ((11, codesTest m s) ∷ [])
+startTests m s = configurationTests m s ++ ((11, codesShownTest m s) ∷ [])
 
 -- Survey's tests behind the map's: these, and "14. Output .. memory is shorter than the gate count."
 unfoldable pub surveyTests : List ℕ → List ℕ → List ℕ → List (ℕ × Bool)
@@ -77,6 +77,7 @@ pub record SurveyByte (b : ℕ) (InCone InFront IsInteresting : Type 0) : Type 0
 
 -- The bytes and sizes are those of 001's cone, front and interest set (with document 01's two differences); the surplus stands.
 pub record SurveyMeans (m s out : List ℕ) (r : SurveyEffect) : Type 0 where
+  pub number : r .number ≡ 0
   pub start : IsStart m s
   pub room : HasRoom m (r .out)
   pub bytes : (g : ℕ) → g < gateCount m → SurveyByte (getD (r .out) g 0) (Cone (circuit m) s g) (Front (circuit m) s g) (Interesting (circuit m) s g)

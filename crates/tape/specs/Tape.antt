@@ -47,19 +47,19 @@ abbrev pub mostEntries : ℕ
 mostEntries = 16383
 
 -- "12. The tape's length isn't a multiple of 4, is above 65,532": true where neither is so
-unfoldable pub tapeTest : List ℕ → Bool
-tapeTest t = eqb (length t % 4) 0 and leb (length t) mostTape
+unfoldable pub tapeLengthTest : List ℕ → Bool
+tapeLengthTest t = eqb (length t % 4) 0 and leb (length t) mostTape
 
 -- "13. An entry, even one never reached, has a kind above 2.": true where none has
-unfoldable pub kindsTest : List ℕ → Bool
-kindsTest t = allBelow (length t / 4) (λ i. leb (getD t (4 * i + 2) 0) 2)
+unfoldable pub entryKindsTest : List ℕ → Bool
+entryKindsTest t = allBelow (length t / 4) (λ i. leb (getD t (4 * i + 2) 0) 2)
 
 -- 12 and 13 as plain facts, and 13 of an entry
 abbrev pub LengthAllowed : List ℕ → Type 0
 LengthAllowed t = (length t % 4 ≡ 0) × (length t ≤ mostTape)
 
-abbrev pub KindAllowed : List ℕ → ℕ → Type 0
-KindAllowed t i = getD t (4 * i + 2) 0 ≤ 2
+abbrev pub EntryKindAllowed : List ℕ → ℕ → Type 0
+EntryKindAllowed t i = getD t (4 * i + 2) 0 ≤ 2
 
 abbrev pub EntriesAllowed : List ℕ → Type 0
-EntriesAllowed t = (i : ℕ) → 4 * i < length t → KindAllowed t i
+EntriesAllowed t = (i : ℕ) → 4 * i < length t → EntryKindAllowed t i

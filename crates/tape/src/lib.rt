@@ -5,7 +5,7 @@ use map::decode;
 ghost use mathlib.Core.Path.{_≡_};
 ghost use Prim.Native.Nat.{_+_, _≤_};
 ghost use lib.ListN.{length};
-ghost use Rattle.tape.specs.Tape.{choiceOf, entryAt, tapeTest, kindsTest};
+ghost use Rattle.tape.specs.Tape.{choiceOf, entryAt, tapeLengthTest, entryKindsTest};
 ghost use Rattle.tape.specs.Inner.{stepAt};
 
 // The longest tape, in bytes.
@@ -81,14 +81,14 @@ pub fn read(tape: &[u8], at: usize) -> Step
 
 // Test 12 for Run.
 pub fn length_ok(tape: &[u8]) -> bool
-    ensures { λ r. ⌜ r ≡ tapeTest (now (tape .entry)) ⌝ }
+    ensures { λ r. ⌜ r ≡ tapeLengthTest (now (tape .entry)) ⌝ }
 {
     tape.len() % 4 == 0 && tape.len() <= MOST_TAPE
 }
 
 // Test 13.
 pub fn kinds_ok(tape: &[u8]) -> bool
-    ensures { λ r. ⌜ r ≡ kindsTest (now (tape .entry)) ⌝ }
+    ensures { λ r. ⌜ r ≡ entryKindsTest (now (tape .entry)) ⌝ }
 {
     let n = tape.len() / 4;
     let mut i = 0;

@@ -8,7 +8,7 @@ use lib.ListN.{length, getD}
 use borrow.Author.Tests.{le-leb, lt-leb}
 use Rattle.folds.specs.Folds.{allBelow}
 use Rattle.folds.proofs.Loops.{all-more, all-fails, all-done, loops-of}
-use Rattle.tape.specs.Tape.{kindsTest}
+use Rattle.tape.specs.Tape.{entryKindsTest}
 use borrow.Author.Needs.{needs}
 use Rattle.tape.proofs.kinds_ok.Statement.{statement}
 use Rattle.tape.proofs.kinds_ok.Tie as tie
@@ -35,7 +35,7 @@ shared-slice-read-if1 c =
     omega (arith, four-each (length (now (s .args .tape))) (l .loop .i) (omega arith))
 
 returns : tie.Need-returns Inv-loop μ-loop
-unfolding kindsTest
+unfolding entryKindsTest
 returns c =
     let l : tie.At-loop Inv-loop μ-loop = search in
     sym (all-fails _ _ (l .loop .i) (omega arith) (lt-leb _ _ (c .if1 .taken)))
@@ -46,7 +46,7 @@ loop-again c =
     (search needs, all-more _ (l .loop .i) (l .loop .inv .1) (le-leb _ _ (c .if1 .left)))
 
 returns-2 : tie.Need-returns-2 Inv-loop μ-loop
-unfolding kindsTest
+unfolding entryKindsTest
 returns-2 c =
     let l : tie.At-loop Inv-loop μ-loop = search in
     all-done _ (l .loop .i) _ (l .loop .inv .1) (omega (arith, l .loop .inv .0)) (omega arith)

@@ -7,7 +7,7 @@ use lib.ListN.{length}
 use borrow.Author.Tests.{le-leb, lt-leb, ne-eqb}
 use Rattle.folds.specs.Folds.{_and_}
 use Rattle.map.specs.Map.{u16At}
-use Rattle.line.specs.Line.{mostInput, tapeAt, inputTest}
+use Rattle.line.specs.Line.{mostInput, tapePlace, inputTest}
 use borrow.Author.Needs.{needs}
 use Rattle.line.proofs.parts.is_whole.Statement.{statement}
 use Rattle.line.proofs.parts.is_whole.Tie as tie
@@ -24,7 +24,7 @@ unfolding inputTest _and_
 returns-2 c =
     let s : tie.Start = search in
     let x = now (s .args .input) in
-    let h : length x ≤ mostInput = omega arith in rw (le-leb _ _ h, ne-eqb (length x) (tapeAt x + u16At x 4) (λ e. omega arith))
+    let h : length x ≤ mostInput = omega arith in rw (le-leb _ _ h, ne-eqb (length x) (tapePlace x + u16At x 4) (λ e. omega arith))
 
 returns-3 : tie.Need-returns-3
 unfolding inputTest _and_

@@ -4,7 +4,7 @@ use mathlib.Core.Bool.{true}
 use native.Mathlib.Omega.{arith}
 use Rattle.folds.specs.Folds.{allBelow}
 use Rattle.folds.proofs.Tests.{flag-false, flag-true}
-use Rattle.map.specs.Map.{gateCount, codeCount, codesAt}
+use Rattle.map.specs.Map.{gateCount, codeCount, codesPlace}
 use Rattle.map.specs.Check.{kindTest, positionsTest, childrenTest, codeTest, firstFailed, bodiesTests}
 use Rattle.map.specs.Inner.{Placed}
 use Rattle.map.proofs.Laws.{placed-of, sound-of}
@@ -52,7 +52,7 @@ unfolding bodiesTests firstFailed
 returns-3 c = rw (four (search), five (search), flag-false _ _ (c .if3 .taken) (c .before .all-children-ok .ensures))
 
 -- where the codes begin
-codes-at : (c : tie.After-child-place) → let s : tie.Start = search in c .child-place .result ≡ codesAt (now (s .args .map))
+codes-at : (c : tie.After-child-place) → let s : tie.Start = search in c .child-place .result ≡ codesPlace (now (s .args .map))
 codes-at c = let s : tie.Start = search in omega (arith, s .pre .0)
 
 codes-ok-requires : tie.Need-codes-ok-requires

@@ -1,7 +1,7 @@
 use denote.Ref.{now}
 use mathlib.Core.Path.{_≡_}
 use native.Mathlib.Omega.{arith}
-use Rattle.map.specs.Map.{childrenAt, codesAt}
+use Rattle.map.specs.Map.{childrenPlace, codesPlace}
 use Rattle.folds.proofs.Tests.{bools}
 use Rattle.map.specs.Check.{offsetsTest}
 use borrow.Author.Needs.{needs}
@@ -13,10 +13,10 @@ use Rattle.map.proofs.decode.child_place.Reads as child-place-reads
 use Rattle.map.proofs.decode.word.Reads as word-reads
 
 -- the offsets that the counts give
-codes-at : (c : tie.After-child-place2) → let s : tie.Start = search in c .child-place2 .result ≡ codesAt (now (s .args .map))
+codes-at : (c : tie.After-child-place2) → let s : tie.Start = search in c .child-place2 .result ≡ codesPlace (now (s .args .map))
 codes-at c = let s : tie.Start = search in omega (arith, s .pre .1)
 
-children-at : (c : tie.After-child-place) → let s : tie.Start = search in c .child-place .result ≡ childrenAt (now (s .args .map))
+children-at : (c : tie.After-child-place) → let s : tie.Start = search in c .child-place .result ≡ childrenPlace (now (s .args .map))
 children-at c = let s : tie.Start = search in omega (arith, s .pre .1)
 
 returns : tie.Need-returns

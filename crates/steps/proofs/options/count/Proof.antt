@@ -1,4 +1,4 @@
-use Rattle.steps.specs.Options.{optionsOf}
+use Rattle.steps.specs.Options.{optionCountOf}
 use borrow.Author.Needs.{needs}
 use Rattle.steps.proofs.options.count.Statement.{statement}
 use Rattle.steps.proofs.options.count.Tie as tie
@@ -9,7 +9,7 @@ use Rattle.map.proofs.decode.kind.Reads as kind-reads
 use Rattle.kinds.proofs.options.Reads as options-reads
 
 returns : tie.Need-returns
-unfolding optionsOf
+unfolding optionCountOf
 returns c =
     let f : tie.After-fan-in = search in
     let k : tie.After-kind = search in
