@@ -22,3 +22,10 @@ not-or-xor (suc zero) a b d = inl refl
 not-or-xor (suc (suc zero)) a b d = absurd (b refl)
 not-or-xor (suc (suc (suc zero))) a b d = absurd (d refl)
 not-or-xor (suc (suc (suc (suc k)))) a b d = inr refl
+
+pub xor-kind : (k : ℕ) → (k ≡ 0 → ⊥) → (k ≡ 1 → ⊥) → (k ≡ 2 → ⊥) → (k ≡ 3 → ⊥) → kindOf k ≡ Xor
+xor-kind zero a b d f = absurd (a refl)
+xor-kind (suc zero) a b d f = absurd (b refl)
+xor-kind (suc (suc zero)) a b d f = absurd (d refl)
+xor-kind (suc (suc (suc zero))) a b d f = absurd (f refl)
+xor-kind (suc (suc (suc (suc k)))) a b d f = refl

@@ -16,6 +16,7 @@ use Rattle.circuit.specs.Gate.{allOn, someOn, oddOn}
 use Rattle.circuit.proofs.Values.{not-not}
 use Rattle.circuit.proofs.Lists.{map-append, place-more}
 use Rattle.kinds.specs.Kinds.{countOn, GivesBy}
+use Rattle.kinds.proofs.Bytes.{xor-kind}
 
 -- ---- counting
 
@@ -73,8 +74,4 @@ module _ (n ones : ℕ) where
   or-gives vs l e = rw (← e) (count-some vs)
 
   pub xor-gives : (k : ℕ) → (k ≡ 0 → ⊥) → (k ≡ 1 → ⊥) → (k ≡ 2 → ⊥) → (k ≡ 3 → ⊥) → GivesBy k n ones (eqb (ones % 2) 1)
-  xor-gives zero a b d f = absurd (a refl)
-  xor-gives (suc zero) a b d f = absurd (b refl)
-  xor-gives (suc (suc zero)) a b d f = absurd (d refl)
-  xor-gives (suc (suc (suc zero))) a b d f = absurd (f refl)
-  xor-gives (suc (suc (suc (suc k)))) a b d f = λ vs l e. rw (← e) (count-odd vs)
+  xor-gives k a b d f vs l e = rw (xor-kind k a b d f, ← e) (count-odd vs)

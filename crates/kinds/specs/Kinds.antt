@@ -13,6 +13,14 @@ use Rattle.circuit.specs.Gate.{Kind, Input, Not, And, Or, Xor, lastKind, kindOf
 unfoldable pub kindFits : ℕ → ℕ → Bool
 kindFits k n = leb k lastKind and fanInFits (kindOf k) n
 
+-- the fan-in of a kind that allows one alone, of 1 or 2; 0 for others
+abbrev pub onlyFanIn : Kind → ℕ
+onlyFanIn Input = 0
+onlyFanIn Not = 1
+onlyFanIn And = 0
+onlyFanIn Or = 0
+onlyFanIn Xor = 2
+
 -- how many of the values are 1
 abbrev pub countOn : List Bool → ℕ
 countOn [] = 0

@@ -3,7 +3,7 @@ ghost use mathlib.Core.Path.{_≡_};
 ghost use Prim.Native.Nat.{_≤_};
 ghost use Rattle.circuit.specs.Tools.{byte};
 ghost use Rattle.circuit.specs.Gate.{kindOf, isInput, relevant};
-ghost use Rattle.kinds.specs.Kinds.{kindFits, GivesBy, optionCount, optionTurns};
+ghost use Rattle.kinds.specs.Kinds.{kindFits, onlyFanIn, GivesBy, optionCount, optionTurns};
 
 // 1 for an input's kind byte, else 0.
 pub fn input_bit(kind: u8) -> usize
@@ -28,6 +28,19 @@ pub fn fits(kind: u8, fan: u8) -> bool
         return false;
     }
     fan <= MOST[kind as usize]
+}
+
+// The fan-in of a kind that allows one alone, of 1 or 2; 0 for others. A pass that knows it reads such a gate's children without a loop.
+pub fn only_fan_in(kind: u8) -> usize
+    ensures { λ r. ⌜ r ≡ onlyFanIn (kindOf kind) ⌝ }
+{
+    match kind {
+        0 => 0,
+        1 => 1,
+        2 => 0,
+        3 => 0,
+        _ => 2,
+    }
 }
 
 // What a gate of this kind gives where `ones` of its `fan` children are at 1.

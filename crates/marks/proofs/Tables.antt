@@ -47,6 +47,9 @@ pub paint-select : (f child : ℕ → ℕ) (p : ℕ → Bool) (j : ℕ) (w : Lis
 paint-select f child p j w = rw (add-one j, map-append child (upTo j) (j ∷ []), select-append p (map child (upTo j)) (child j ∷ []))
     (paint-append f (select p (map child (upTo j))) (select p (child j ∷ [])) w)
 
+pub paint-two : (f : ℕ → ℕ) (p : ℕ → Bool) (x y : ℕ) (w : List ℕ) → paint f (select p (x ∷ y ∷ [])) w ≡ paint f (select p (y ∷ [])) (paint f (select p (x ∷ [])) w)
+paint-two f p x y w = rw (select-append p (x ∷ []) (y ∷ [])) (paint-append f (select p (x ∷ [])) (select p (y ∷ [])) w)
+
 pub paint-length : (f : ℕ → ℕ) (xs w : List ℕ) → length (paint f xs w) ≡ length w
 unfolding paint
 paint-length f [] w = refl

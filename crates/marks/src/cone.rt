@@ -11,7 +11,7 @@ ghost use Rattle.circuit.specs.Tools.{select};
 ghost use Rattle.circuit.specs.Gate.{kindOf, relevant};
 ghost use Rattle.circuit.specs.Circuit.{on, justified};
 ghost use Rattle.circuit.specs.Survey.{reasons};
-ghost use Rattle.map.specs.Map.{codeCount, circuit};
+ghost use Rattle.map.specs.Map.{codeCount, fanIn, firstChild, childAt, circuit};
 ghost use Rattle.map.specs.Inner.{Counted, CodeMarks};
 ghost use Rattle.marks.specs.Marks.{MarksOf, ConeTurned, paint, toOne};
 
@@ -43,7 +43,29 @@ fn mark_child(kind: u8, v: bool, x: usize, s: &[u8], marks: &mut [u8])
     marks[x] = child_mark(kinds::relevant(kind, v, s[x] == 1), marks[x]);
 }
 
-// The relevant children of a justified gate come into the cone.
+// The same for child j of gate g.
+fn mark_kid(
+    map: &[u8],
+    counts: Counts,
+    g: usize,
+    first: usize,
+    j: usize,
+    kind: u8,
+    v: bool,
+    s: &[u8],
+    marks: &mut [u8],
+)
+    requires { ⌜ Counted (now map) counts ⌝ }
+    requires { ⌜ (g < counts .gates) × ((first ≡ firstChild (now map) g) × (j < fanIn (now map) g)) ⌝ }
+    requires { ⌜ (counts .gates ≤ length (now s)) × (counts .gates ≤ length (now marks)) ⌝ }
+    ensures { λ _. ⌜ now (marks .exit)
+        ≡ paint toOne (select (λ y. relevant (kindOf kind) v (on (now (s .entry)) y)) (childAt (now (map .entry)) g j ∷ [])) (now (marks .entry)) ⌝ }
+{
+    let x = decode::kid(map, counts, g, first, j);
+    mark_child(kind, v, x, s, marks);
+}
+
+// The relevant children of a justified gate come into the cone. Those of a kind with one fan-in alone are marked without a loop.
 fn mark_children(map: &[u8], counts: Counts, g: usize, s: &[u8], marks: &mut [u8])
     requires { ⌜ Counted (now map) counts ⌝ }
     requires { ⌜ (g < counts .gates) × ((counts .gates ≤ length (now s)) × (counts .gates ≤ length (now marks))) ⌝ }
@@ -52,12 +74,21 @@ fn mark_children(map: &[u8], counts: Counts, g: usize, s: &[u8], marks: &mut [u8
 {
     let kind = decode::kind(map, g);
     let v = s[g] == 1;
-    let fan = decode::fan_in(map, g);
     let first = decode::first_child(map, g);
+    let only = kinds::only_fan_in(kind);
+    if only == 1 {
+        mark_kid(map, counts, g, first, 0, kind, v, s, marks);
+        return;
+    }
+    if only == 2 {
+        mark_kid(map, counts, g, first, 0, kind, v, s, marks);
+        mark_kid(map, counts, g, first, 1, kind, v, s, marks);
+        return;
+    }
+    let fan = decode::fan_in(map, g);
     let mut j = 0;
     while j < fan {
-        let x = decode::kid(map, counts, g, first, j);
-        mark_child(kind, v, x, s, marks);
+        mark_kid(map, counts, g, first, j, kind, v, s, marks);
         j += 1;
     }
 }
