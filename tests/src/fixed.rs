@@ -60,7 +60,7 @@ fn sizes(front: usize, interest: usize, bytes: &str, surplus: usize) -> String {
     format!("SIZES {front} {interest} {}", memory(bytes, surplus))
 }
 
-/// The expected line of a declined evaluate or survey: the memory is untouched.
+/// The expected line of a refused evaluate or survey: the memory is untouched.
 fn declined(number: u8, room: usize) -> String {
     if room == 0 {
         format!("REFUSED {number}")
@@ -93,7 +93,7 @@ fn moved((gate, turned): (usize, usize), after: &str, bytes: &str, surplus: usiz
     format!("MOVED {gate} {turned} {} {}", memory(after, 0), memory(bytes, surplus))
 }
 
-/// The expected line of a declined move: configuration and memory are untouched.
+/// The expected line of a refused move: configuration and memory are untouched.
 fn unmoved(number: u8, configuration: &[u8], room: usize) -> String {
     let mut line = format!("REFUSED {number} ");
     if configuration.is_empty() {
@@ -134,7 +134,7 @@ fn spent((moves, flips, front): (usize, usize, usize), after: [&str; 2], surplus
     format!("SPENT {moves} {flips} {front} {} {work} {answer}", memory(after[0], 0))
 }
 
-/// The expected line of a declined run: no memory is touched.
+/// The expected line of a refused run: no memory is touched.
 fn not_run(number: u8, start: &[u8], rooms: (usize, usize)) -> String {
     let untouched = |room: usize| hex(&vec![PATTERN; room]);
     format!("REFUSED {number} {} {} {}", hex(start), untouched(rooms.0), untouched(rooms.1))
@@ -202,7 +202,7 @@ impl List {
         self.make_move(name, map, &before, &entry, before.len(), &line);
     }
 
-    /// A declined move; the name says the number too.
+    /// A refused move; the name says the number too.
     fn unmoved(&mut self, name: &str, number: u8, map: &[u8], configuration: &[u8], entry: &[u8], room: usize) {
         let line = unmoved(number, configuration, room);
         self.make_move(name, map, configuration, entry, room, &line);
@@ -249,18 +249,18 @@ impl List {
         self.program(name, map, &digits(start), (&tape.0.concat(), tape.1), &line);
     }
 
-    /// A declined run; the name says the number too.
+    /// A refused run; the name says the number too.
     fn not_run(&mut self, name: &str, number: u8, map: &[u8], start: &[u8], tape: (&[u8], usize), rooms: (usize, usize)) {
         self.run(name, map, start, tape, rooms, &not_run(number, start, rooms));
     }
 
-    /// The program on something declined; the name says the number too.
+    /// The program on something refused; the name says the number too.
     fn not_printed(&mut self, name: &str, number: u8, map: &[u8], start: &[u8], tape: (&[u8], usize)) {
         self.program(name, map, start, tape, &format!("REFUSED {number}"));
     }
 }
 
-/// The fixed cases. A name with "gives n" says which number declines the call;
+/// The fixed cases. A name with "gives n" says which number refuses the call;
 /// the expected lines are written by hand and not asked of the engine.
 pub fn fixed() -> Vec<Named> {
     let mut list = List(Vec::new());

@@ -184,7 +184,7 @@ fn with_memory(word: String, memory: &[u8]) -> String {
 }
 
 /// "conf is the configuration after the call, `-` where it is empty": in
-/// hexadecimal like the memory, since a declined one may have any bytes. The
+/// hexadecimal like the memory, since a refused one may have any bytes. The
 /// memories of a run are written in the same way.
 fn with_configuration(word: String, configuration: &[u8]) -> String {
     if configuration.is_empty() {

@@ -53,7 +53,7 @@ pub fn random_configuration(dice: &mut Dice, draft: &Draft, obeying: Vec<u8>) ->
     body
 }
 
-/// The survey's bytes, or none where Survey declines.
+/// The survey's bytes, or none where Survey refuses.
 fn surveyed_bytes(map: &[u8], body: &[u8]) -> Vec<u8> {
     let mut memory = vec![0; body.len()];
     match engine::survey(map, body, &mut memory) {

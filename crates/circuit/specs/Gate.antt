@@ -1,5 +1,5 @@
--- The kinds of gate. All that document 01 says of one kind and not of another stands here: a new kind is a new clause of each definition. (What code goes by, options
--- by their places, is in `kinds`.)
+-- The kinds of gate. All that document 01 says of one kind and not of another stands here: a new kind is a new clause of each definition. (What code goes by, as options
+-- by their places and only fan-ins, is in `kinds`.)
 -- A gate is seen by its kind, its own value and its children with their values. Assumes nothing.
 use Prim.Native.Nat.{ℕ, zero, suc, _≤_}
 use mathlib.Core.Path.{_≡_}

@@ -25,9 +25,8 @@ use Rattle.line.specs.Line.{EveryInput, CutInput}
 
 -- "A refused call gives the number that document 01 names and leaves all lent bytes untouched; an accepted one leaves what document 01 states."
 -- Of each call its number, by document 01's conditions in their order; which inputs it accepts; what a refused call gives and leaves beside the
--- number; and what an accepted one does. What Survey, Move and Run do is in demand 2. Of the program which inputs it runs, which it refuses with 0, and that the bytes that it
--- reads are enough. (The demand's first sentence, on the ends of memory and the
--- end of calls, Rattle asks of every function.)
+-- number; and what an accepted one does. What Survey, Move and Run do is in demand 2. Of the program which inputs it runs, which it refuses with 0,
+-- and that the bytes that it reads are enough. (The demand's first sentence, on the ends of memory and the end of calls, Rattle asks of every function.)
 pub record Demand1 : Type 0 where
   pub check-number : CheckNumber
   pub check-accepts : CheckAccepts

@@ -1,4 +1,4 @@
--- What test 4 goes by; and for inner functions what a gate gives, by the number of its children at 1, and what its options turn, by place. Assumes nothing.
+-- What test 4 goes by; and for inner functions the fan-in of a kind that allows one alone, what a gate gives, by the number of its children at 1, and what its options turn, by place. Assumes nothing.
 use Prim.Native.Nat.{ℕ, _+_}
 use mathlib.Core.Path.{_≡_}
 use mathlib.Core.Bool.{Bool, true, false, not}

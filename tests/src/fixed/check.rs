@@ -302,14 +302,14 @@ pub(super) fn children(l: &mut List) {
     l.children("of gate 300 of a chain of 300 gates", &chain(300), 300, "CHILDREN");
     l.children("of the only gate", &inputs(1, &[]), 0, "CHILDREN");
 
-    // A map that Check declines, for each number.
+    // A map that Check refuses, for each number.
     l.children("of a map of no bytes", &[], 0, "CHILDREN");
-    l.children("of a map declined with 1", &adder[..11], 3, "CHILDREN");
-    l.children("of a map declined with 2", &with16(&adder, 2, 0), 3, "CHILDREN");
-    l.children("of a map declined with 3", &adder[..67], 3, "CHILDREN");
-    l.children("of a map declined with 4", &with(&adder, 40, 5), 3, "CHILDREN");
-    l.children("of a map declined with 5", &with(&adder, 42, 7), 3, "CHILDREN");
-    l.children("of a map declined with 6", &with(&adder, 62, 7), 3, "CHILDREN");
-    l.children("of a map declined with 7", &with(&adder, 66, 2), 3, "CHILDREN");
-    l.children("of a map declined with 8", &map(&ADDER, &[(5, 1)]), 3, "CHILDREN");
+    l.children("of a map refused with 1", &adder[..11], 3, "CHILDREN");
+    l.children("of a map refused with 2", &with16(&adder, 2, 0), 3, "CHILDREN");
+    l.children("of a map refused with 3", &adder[..67], 3, "CHILDREN");
+    l.children("of a map refused with 4", &with(&adder, 40, 5), 3, "CHILDREN");
+    l.children("of a map refused with 5", &with(&adder, 42, 7), 3, "CHILDREN");
+    l.children("of a map refused with 6", &with(&adder, 62, 7), 3, "CHILDREN");
+    l.children("of a map refused with 7", &with(&adder, 66, 2), 3, "CHILDREN");
+    l.children("of a map refused with 8", &map(&ADDER, &[(5, 1)]), 3, "CHILDREN");
 }

@@ -55,7 +55,7 @@ fn children(l: &mut List) {
     l.children("of the second input", &adder, 1, "CHILDREN");
     l.children("of the first AND", &adder, 4, "CHILDREN 0 1");
     l.children("of the second XOR", &adder, 6, "CHILDREN 2 3");
-    l.children("of gate 5 of a map declined with 3", &adder[..67], 5, "CHILDREN");
+    l.children("of gate 5 of a map refused with 3", &adder[..67], 5, "CHILDREN");
     l.children("of an input behind a NOT", &gap(), 2, "CHILDREN");
     l.children("of an OR over a NOT and an input", &gap(), 3, "CHILDREN 1 2");
 }
