@@ -9,8 +9,8 @@ use Rattle.folds.specs.Folds.{_and_}
 use Rattle.folds.proofs.Tests.{which, and-past, and-first-false}
 use Rattle.circuit.specs.Tools.{isEmpty}
 use Rattle.circuit.specs.Gate.{isInput}
-use Rattle.circuit.specs.Circuit.{Circuit, isSome, WellFormed, on}
-use Rattle.circuit.specs.Evaluate.{Satisfying, KeepsCodes}
+use Rattle.circuit.specs.Circuit.{Circuit, isSome, WellFormed, Configuration, on}
+use Rattle.circuit.specs.Evaluate.{Obeys, Satisfying, KeepsCodes}
 use Rattle.circuit.specs.Survey.{cone, front}
 use Rattle.circuit.specs.Run.{answer}
 use Rattle.circuit.specs.Source001.{Cone}
@@ -50,21 +50,24 @@ answer-is c ok s =
 -- ---- an empty front
 
 module _ (c : Circuit) (ok : WellFormed c) (s : List ℕ) (k : KeepsCodes c s) (e : isEmpty (front c s) ≡ true) where
-  -- every gate of the cone evaluates to its value in the configuration
-  cone-shows : (b g : ℕ) → g < b → g < c .gates → cone c s g ≡ true → on (answer c s) g ≡ on s g
-  unfolding answer
-  cone-shows zero g l h m = absurd (omega arith)
-  cone-shows (suc b) g l h m = elim (which (isInput (c .kind g))) [
-    | inl i ↦ values-input c (kept c ok s) g h i ∙ and-past _ _ m
-    | inr i ↦ (let j = cone-justified c ok s e g h m in
-        sym (answered c ok s .obeys g h i)
-        ∙ laws (c .kind g) (on s g) i .force (on s) (on (answer c s)) (c .kids g) (justified-seen c ok s g h i j)
-        (λ x n r. let w = ok .below g h x n in cone-shows b x (omega arith) (omega arith) (cone-child c ok s g h m j x n r)))
-  ]
+  module _ (a : List ℕ) (o : Obeys c a) (same : (g : ℕ) → g < c .gates → isInput (c .kind g) ≡ true → Cone c s g → on a g ≡ on s g) where
+    -- every gate of the cone has its value in the configuration, if the cone's inputs have theirs
+    cone-shows : (b g : ℕ) → g < b → g < c .gates → cone c s g ≡ true → on a g ≡ on s g
+    cone-shows zero g l h m = absurd (omega arith)
+    cone-shows (suc b) g l h m = elim (which (isInput (c .kind g))) [
+      | inl i ↦ same g h i (survey-is c ok s .cone-is g h .0 m)
+      | inr i ↦ (let j = cone-justified c ok s e g h m in
+          sym (o g h i)
+          ∙ laws (c .kind g) (on s g) i .force (on s) (on a) (c .kids g) (justified-seen c ok s g h i j)
+          (λ x n r. let w = ok .below g h x n in cone-shows b x (omega arith) (omega arith) (cone-child c ok s g h m j x n r)))
+    ]
+
+    pub free-satisfies : Configuration c a → Satisfying c a
+    free-satisfies n = record {
+      configuration = n;
+      obeys = o;
+      shows = λ g h v q. cone-shows (suc g) g (omega arith) h (cone-coded c ok s g (ap isSome q)) ∙ k .shows g h v q;
+    }
 
   pub answer-satisfies : Satisfying c (answer c s)
-  answer-satisfies = record {
-    configuration = answered c ok s .configuration;
-    obeys = answered c ok s .obeys;
-    shows = λ g h v q. cone-shows (suc g) g (omega arith) h (cone-coded c ok s g (ap isSome q)) ∙ k .shows g h v q;
-  }
+  answer-satisfies = let w = answered c ok s in free-satisfies (answer c s) (w .obeys) (w .kept) (w .configuration)

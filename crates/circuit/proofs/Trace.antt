@@ -14,8 +14,8 @@ use Rattle.circuit.specs.Evaluate.{KeepsCodes, differ}
 use Rattle.circuit.specs.Survey.{front, frontSize}
 use Rattle.circuit.specs.declared.Entry.{Entry}
 use Rattle.circuit.specs.Run.{move, RunResult, endsFound, stop, after, run}
-use Rattle.circuit.specs.Promise.{NoFront, EntryDone, config, RunPromised, Demand2OnCircuits}
-use Rattle.circuit.proofs.Found.{answer-is, answer-satisfies}
+use Rattle.circuit.specs.Promise.{NoFront, EntryDone, config, RunPromised, InputsAreFree, Demand2OnCircuits}
+use Rattle.circuit.proofs.Found.{answer-is, free-satisfies, answer-satisfies}
 use Rattle.circuit.proofs.Gate.{functions}
 use Rattle.circuit.proofs.Source001.{justified-is, smallest-is, down-options-are, down-options-in-order, options-justify}
 use Rattle.circuit.proofs.Survey.{relevant-is, inputs-in-order, differ-is, survey-is}
@@ -125,6 +125,12 @@ promised : (c : Circuit) → WellFormed c → (s : List ℕ) → KeepsCodes c s 
 promised c ok s k [] = no-entry c ok s k
 promised c ok s k (e ∷ es) = an-entry c ok s k e es (λ q. promised c ok (move c s e .next) (entry-done c ok s k q e .keeps) es)
 
+inputs-are-free : InputsAreFree
+inputs-are-free c ok s k n a w = elim (which (isEmpty (front c s))) [
+  | inl q ↦ free-satisfies c ok s k q a (w .obeys) (w .kept) (w .configuration)
+  | inr q ↦ absurd (some-front c ok s q n)
+]
+
 pub demand2-on-circuits : Demand2OnCircuits
 demand2-on-circuits = record {
   functions = functions;
@@ -138,6 +144,7 @@ demand2-on-circuits = record {
   greedy = greedy-options-are;
   inputs = inputs-in-order;
   answers = answer-is;
+  free = inputs-are-free;
   differs = differ-is;
   runs = promised;
 }

@@ -85,6 +85,16 @@ pub record FoundAnswer (c : Circuit) (s a : List ℕ) : Type 0 where
 abbrev pub AnswerIs : Type 0
 AnswerIs = (c : Circuit) → WellFormed c → (s : List ℕ) → FoundAnswer c s (answer c s) × ((a : List ℕ) → FoundAnswer c s a → a ≡ answer c s)
 
+-- Inputs outside the cone are free: where the front is empty, whatever values they have, a configuration that obeys every gate and in which the cone's inputs have their
+-- values is a satisfying assignment.
+pub record FreeFrom (c : Circuit) (s a : List ℕ) : Type 0 where
+  pub configuration : Configuration c a
+  pub obeys : Obeys c a
+  pub kept : (g : ℕ) → g < c .gates → isInput (c .kind g) ≡ true → Cone c s g → on a g ≡ on s g
+
+abbrev pub InputsAreFree : Type 0
+InputsAreFree = (c : Circuit) → WellFormed c → (s : List ℕ) → KeepsCodes c s → NoFront c s → (a : List ℕ) → FreeFrom c s a → Satisfying c a
+
 -- ---- demand 2
 
 -- "Of the entries done, the first works on the start, each later one on the configuration that the entry before left.": the configuration after i
@@ -136,7 +146,7 @@ RunPromised c s es r = Promised c s es (config c s es) (told (r .outcome .ending
 --     options, order, justify        the down options are 001's, in document 01's order; each justifies its gate, and `turn` turns just its gates
 --     greedy                         what greedy picks from
 --     inputs                         the list of inputs that rows go by has exactly these, by gate number
---     answers                        what Found writes
+--     answers, free                  what Found writes, and that inputs outside the cone are free
 --     differs                        what `flips` sums: at how many gates two configurations differ
 --     runs                           what runs promise
 pub record Demand2OnCircuits : Type 1 where
@@ -151,6 +161,7 @@ pub record Demand2OnCircuits : Type 1 where
   pub greedy : GreedyOptionsAre
   pub inputs : InputsInOrder
   pub answers : AnswerIs
+  pub free : InputsAreFree
   pub differs : DifferIs
   pub runs : (c : Circuit) → WellFormed c → (s : List ℕ) → KeepsCodes c s → (es : List Entry) → RunPromised c s es (run c s es)
 

@@ -16,7 +16,7 @@ use Rattle.circuit.specs.Circuit.{WellFormed}
 use Rattle.circuit.specs.Evaluate.{Satisfying, differ}
 use Rattle.circuit.specs.Survey.{survey}
 use Rattle.circuit.specs.Run.{RunResult, run, answer, EndingValues, told}
-use Rattle.circuit.specs.Promise.{RunPromised, FinishingTape}
+use Rattle.circuit.specs.Promise.{NoFront, RunPromised, FinishingTape}
 use Rattle.circuit.proofs.Values.{bit-same}
 use Rattle.circuit.proofs.Evaluate.{row-is, row-first, evaluate-again}
 use Rattle.circuit.proofs.Survey.{differ-is}
@@ -80,12 +80,14 @@ module _ (m s tape work ans : List ℕ) (a : Runnable m s tape work ans) where
       let w = answer-is (circuit m) ok (end .last) .0 in
       let l : length (answer (circuit m) (end .last)) ≡ gateCount m = w .configuration .long in
       let first = over-first (answer (circuit m) (end .last)) ans (gateCount m) l in
+      let no-front-left : NoFront (circuit m) (end .last) = rw (promised .last-is) (promised .at-found f .1) in
       record {
         answered = rw first w;
         marked = rw first (mark-does m (answer (circuit m) (end .last)) .1 (a .start .accepted, promised .shows f));
         row = rw (row-first (circuit m) (answer (circuit m) (end .last)) _ l, first)
             (row-is (circuit m) (answer (circuit m) (end .last)) (w .configuration), evaluate-again (circuit m) ok (answer (circuit m) (end .last)) (w .configuration) (w .obeys));
         codes = λ r h. shown m (facts m (a .start .accepted)) (answer (circuit m) (end .last)) _ (promised .shows f) r h;
+        free = λ b w. mark-does m b .1 (a .start .accepted, demand2-on-circuits .free (circuit m) ok (end .last) (promised .keeps) no-front-left b w);
         surplus = over-rest (answer (circuit m) (end .last)) ans (gateCount m) l;
         long = over-long (answer (circuit m) (end .last)) ans (gateCount m) l (a .room .answer-room);
       }

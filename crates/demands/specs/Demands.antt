@@ -9,7 +9,7 @@ use Rattle.circuit.specs.Evaluate.{Row, rowOf, evaluate, differ}
 use Rattle.circuit.specs.Tools.{isEmpty}
 use Rattle.circuit.specs.Survey.{front, survey, frontSize}
 use Rattle.circuit.specs.Source001.{DifferIs}
-use Rattle.circuit.specs.Promise.{FoundAnswer, config, Promised, Demand2OnCircuits}
+use Rattle.circuit.specs.Promise.{FoundAnswer, FreeFrom, config, Promised, Demand2OnCircuits}
 use Rattle.map.specs.Map.{mostGates, gateCount, codeCount, codeGate, codeValue, circuit}
 use Rattle.map.specs.Check.{MapAccepts, CheckNumber, CheckAccepts, CheckRefuses, CheckDoes, AcceptedMaps}
 use Rattle.map.specs.Children.{ChildrenDoes}
@@ -57,12 +57,14 @@ pub record Demand1 : Type 0 where
 
 -- What stands in the answer memory after Found, where `last` is the last configuration: its first bytes, one per gate, are 'inputs in the cone keep their
 -- values, all other inputs are 0, other gates are evaluated', and Mark says yes to them: they obey every gate and show every code. Each code record of the map
--- finds its value there. Their input values, in gate order, are a row from which Evaluate makes them. The surplus stands.
+-- finds its value there. Their input values, in gate order, are a row from which Evaluate makes them. Inputs outside the cone are free: with any other values there the
+-- codes are shown too. The surplus stands.
 pub record FoundWrites (m last ans after : List ℕ) : Type 0 where
   pub answered : FoundAnswer (circuit m) last (take (gateCount m) after)
   pub marked : Satisfies m (take (gateCount m) after)
   pub codes : (r : ℕ) → r < codeCount m → getD after (codeGate m r) 0 ≡ codeValue m r
   pub row : Row (circuit m) (rowOf (circuit m) after) × (evaluate (circuit m) (rowOf (circuit m) after) ≡ take (gateCount m) after)
+  pub free : (a : List ℕ) → FreeFrom (circuit m) last a → Satisfies m a
   pub surplus : drop (gateCount m) after ≡ drop (gateCount m) ans
   pub long : length after ≡ length ans
 
