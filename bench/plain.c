@@ -4,11 +4,12 @@
 #include <stdbool.h>
 #include <string.h>
 
-enum { MAX_GATES = 1024, MAX_TAPE = 65532 };
+enum { MAX_GATES = 1024, MAX_FAN_IN = 8, MAX_TAPE = 65532 };
 enum { CONTENTS_SIZE = 12, GATE_SIZE = 4, CHILD_SIZE = 2, CODE_SIZE = 4, ENTRY_SIZE = 4 };
 enum { INPUT, NOT, AND, OR, XOR };
 enum { GREEDY, DOWN, UP };
 enum { CONE = 1, FRONT = 2, INTEREST = 4 };
+enum ending { SPENT, FOUND, STUCK };
 
 /* The bodies of a lent map and how many records each has. */
 struct map {
@@ -75,7 +76,7 @@ static void flag_codes(const struct map *map, uint8_t *coded)
         coded[code_gate(map, code)] = 1;
 }
 
-/* ---- Tests 1 to 8 ---- */
+/* ---- Tests 1 to 7 ---- */
 
 static inline bool fan_in_allowed(unsigned kind, size_t fan_in)
 {
@@ -139,16 +140,6 @@ static bool codes_hold(const struct map *map)
     return true;
 }
 
-static bool coded_gates_have_no_parent(const struct map *map)
-{
-    uint8_t coded[MAX_GATES];
-    flag_codes(map, coded);
-    for (size_t i = 0; i < map->child_count; i++)
-        if (coded[child_at(map->children, i)])
-            return false;
-    return true;
-}
-
 /* Fills in the map's bodies where its contents are right, else gives 1, 2 or 3. */
 static uint8_t open_contents(struct map *map, const uint8_t *bytes, size_t len)
 {
@@ -184,8 +175,6 @@ static uint8_t open_map(struct map *map, const uint8_t *bytes, size_t len)
         return 6;
     if (!codes_hold(map))
         return 7;
-    if (!coded_gates_have_no_parent(map))
-        return 8;
     return 0;
 }
 
@@ -334,14 +323,40 @@ static size_t front_gate(const uint8_t *marks, size_t place)
     return gate;
 }
 
-/* How many down options a front gate has. */
-static size_t option_count(const struct map *map, size_t gate, const uint8_t *values)
+/* AND at 1 and OR at 0: every child must have the gate's value. */
+static inline bool all_children_must_agree(unsigned kind, uint8_t value)
 {
-    unsigned kind = kind_of(map, gate);
-    return kind == XOR || one_child_is_enough(kind, values[gate]) ? fan_in_of(map, gate) : 1;
+    return (kind == AND && value == 1) || (kind == OR && value == 0);
 }
 
-/* AND at 1 and OR at 0: every child must have the gate's value. Returns how many were turned. */
+static bool some_wrong_child_is_coded(const uint8_t *children, size_t fan_in, const uint8_t *coded, const uint8_t *values, uint8_t value)
+{
+    for (size_t i = 0; i < fan_in; i++) {
+        size_t child = child_at(children, i);
+        if (coded[child] && values[child] != value)
+            return true;
+    }
+    return false;
+}
+
+/* The down options of a front gate that turn no coded gate: writes their places among its children, and returns how many there are. The single option of
+ * an AND at 1 or an OR at 0 has place 0; one coded child among those that it would turn puts it out. */
+static size_t options_left(const struct map *map, size_t gate, const uint8_t *coded, const uint8_t *values, uint8_t *left)
+{
+    const uint8_t *children = children_of(map, gate);
+    size_t fan_in = fan_in_of(map, gate);
+    size_t count = 0;
+    if (all_children_must_agree(kind_of(map, gate), values[gate])) {
+        left[0] = 0;
+        return !some_wrong_child_is_coded(children, fan_in, coded, values, values[gate]);
+    }
+    for (size_t i = 0; i < fan_in; i++)
+        if (!coded[child_at(children, i)])
+            left[count++] = (uint8_t)i;
+    return count;
+}
+
+/* AND at 1 and OR at 0: turns the wrong children, and returns how many. */
 static size_t turn_wrong_children(const struct map *map, size_t gate, uint8_t *values)
 {
     const uint8_t *children = children_of(map, gate);
@@ -358,8 +373,7 @@ static size_t turn_wrong_children(const struct map *map, size_t gate, uint8_t *v
 /* Does a down option of a front gate. Returns how many values it turned. */
 static size_t turn_option(const struct map *map, size_t gate, size_t option, uint8_t *values)
 {
-    unsigned kind = kind_of(map, gate);
-    if ((kind == AND || kind == OR) && !one_child_is_enough(kind, values[gate]))
+    if (all_children_must_agree(kind_of(map, gate), values[gate]))
         return turn_wrong_children(map, gate, values);
     values[child_at(children_of(map, gate), option)] ^= 1;
     return 1;
@@ -375,37 +389,41 @@ static size_t interest_after(const struct map *map, size_t gate, size_t option, 
     return mark_interest(map, marks);
 }
 
-/* Of the options with the smallest interest set after the move, the one at choice modulo their number. */
-static size_t greedy_option(const struct map *map, size_t gate, size_t options, size_t choice, const uint8_t *values)
+/* Of the options left with the smallest interest set after the move, the one at choice modulo their number. */
+static size_t greedy_option(const struct map *map, size_t gate, const uint8_t *left, size_t options, size_t choice, const uint8_t *values)
 {
-    size_t best[8];
+    size_t best[MAX_FAN_IN];
     size_t ties = 0;
     size_t smallest = MAX_GATES + 1;
-    for (size_t option = 0; option < options; option++) {
-        size_t interest = interest_after(map, gate, option, values);
+    for (size_t i = 0; i < options; i++) {
+        size_t interest = interest_after(map, gate, left[i], values);
         if (interest < smallest) {
             smallest = interest;
             ties = 0;
         }
         if (interest == smallest)
-            best[ties++] = option;
+            best[ties++] = left[i];
     }
     return best[choice % ties];
 }
 
-/* Does one entry on the drawn gate. Returns how many values it turned. */
-static size_t do_entry(const struct map *map, const uint8_t *entry, size_t gate, bool coded, uint8_t *values)
+/* Does one entry on the drawn gate. Returns how many values it turned: none where it is stuck. */
+static size_t do_entry(const struct map *map, const uint8_t *entry, size_t gate, const uint8_t *coded, uint8_t *values)
 {
     unsigned kind = entry[2];
     size_t choice = entry[3];
-    if (kind == UP && !coded) {
+    uint8_t left[MAX_FAN_IN];
+    bool upward = kind == UP && !coded[gate];
+    size_t options = upward ? 0 : options_left(map, gate, coded, values, left);
+    if (options == 0 && coded[gate])
+        return 0;
+    if (options == 0) {
         values[gate] ^= 1;
         return 1;
     }
-    size_t options = option_count(map, gate, values);
-    size_t option = choice % options;
+    size_t option = left[choice % options];
     if (kind == GREEDY && options > 1)
-        option = greedy_option(map, gate, options, choice, values);
+        option = greedy_option(map, gate, left, options, choice, values);
     return turn_option(map, gate, option, values);
 }
 
@@ -480,18 +498,31 @@ static void write_answer(const struct map *map, const uint8_t *values, const uin
 /* What a run has done so far. */
 struct progress {
     size_t place, flips, front;
+    bool stuck;
 };
 
-/* Does entries until the front is empty or the tape is used up. The marks are then those of the last cone and front. */
+static enum ending ending_of(const struct progress *run)
+{
+    if (run->front == 0)
+        return FOUND;
+    return run->stuck ? STUCK : SPENT;
+}
+
+/* Does entries until the front is empty, the tape is used up or the drawn gate is stuck. The marks are then those of the last cone and front. */
 static struct progress do_tape(const struct map *map, const uint8_t *tape, size_t tape_len, uint8_t *values, uint8_t *marks)
 {
     uint8_t coded[MAX_GATES];
     flag_codes(map, coded);
-    struct progress run = { 0, 0, mark_cone(map, values, marks) };
+    struct progress run = { 0, 0, mark_cone(map, values, marks), false };
     while (run.front > 0 && run.place < tape_len) {
         const uint8_t *entry = tape + run.place;
         size_t gate = front_gate(marks, read_u16(entry) % run.front);
-        run.flips += do_entry(map, entry, gate, coded[gate], values);
+        size_t turned = do_entry(map, entry, gate, coded, values);
+        if (turned == 0) {
+            run.stuck = true;
+            break;
+        }
+        run.flips += turned;
         run.front = mark_cone(map, values, marks);
         run.place += ENTRY_SIZE;
     }
@@ -517,9 +548,10 @@ uint8_t plain_run(const uint8_t *map, size_t map_len,
         return 14;
     struct progress run = do_tape(&m, tape, tape_len, configuration, work);
     mark_interest(&m, work);
-    if (run.front == 0)
+    enum ending ending = ending_of(&run);
+    if (ending == FOUND)
         write_answer(&m, configuration, work, answer);
-    size_t result[4] = { run.front == 0, run.place / ENTRY_SIZE, run.flips, run.front };
+    size_t result[4] = { ending, run.place / ENTRY_SIZE, run.flips, ending == SPENT ? run.front : 0 };
     put_numbers(numbers, numbers_len, result, 4);
     return 0;
 }

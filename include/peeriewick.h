@@ -1,4 +1,4 @@
-/* Peeriewick for C hosts: the calls of document 01, proved in Rattle.
+/* Peeriewick for C hosts: its calls, proved in Rattle.
  *
  * `./archives` makes a static library for each service level in target/staticlib; link with one of them:
  *     libpeeriewick_state.a     check, children, evaluate, mark
@@ -55,7 +55,7 @@ enum {
     PEERIEWICK_IN_INTEREST = 4
 };
 
-/* What a call returns: 0, or the number of the first test that fails. */
+/* What a call returns: 0, or the number of the first test that fails. No call gives 8. */
 enum {
     PEERIEWICK_ACCEPTED = 0,
     PEERIEWICK_REFUSED_CONTENTS = 1,    /* the map is shorter than 12 bytes */
@@ -65,7 +65,6 @@ enum {
     PEERIEWICK_REFUSED_POSITIONS = 5,   /* a first child position or the child count is wrong */
     PEERIEWICK_REFUSED_CHILDREN = 6,    /* a child isn't below its gate or doesn't ascend */
     PEERIEWICK_REFUSED_CODES = 7,       /* a code's gate is past the last or doesn't ascend, or its value or zero byte is wrong */
-    PEERIEWICK_REFUSED_CODED_CHILD = 8, /* a coded gate is some gate's child */
     PEERIEWICK_REFUSED_LENGTH = 9,      /* the row or configuration has the wrong length */
     PEERIEWICK_REFUSED_VALUES = 10,     /* it has a byte above 1 */
     PEERIEWICK_REFUSED_START = 11,      /* a coded gate's value isn't its code */
@@ -75,7 +74,7 @@ enum {
     PEERIEWICK_REFUSED_FRONT = 15       /* the front is empty */
 };
 
-/* Checks a map. Numbers: the counts of gates, inputs, children and codes. Refused with 1 to 8. */
+/* Checks a map. Numbers: the counts of gates, inputs, children and codes. Refused with 1 to 7. */
 enum {
     PEERIEWICK_CHECK_GATES = 0,
     PEERIEWICK_CHECK_INPUTS = 1,
@@ -96,13 +95,13 @@ void peeriewick_children(const uint8_t *map, size_t map_len, size_t gate,
                          size_t *numbers, size_t numbers_len);
 
 /* Writes the value of every gate for a row. `row`: exactly one byte 0 or 1 for each input, by gate number. `out`: room for a byte per gate, written. Refused with
- * 1 to 10 and 14. */
+ * 1 to 7, 9, 10 and 14. */
 uint8_t peeriewick_evaluate(const uint8_t *map, size_t map_len,
                             const uint8_t *row, size_t row_len,
                             uint8_t *out, size_t out_len);
 
 /* Does the configuration obey every gate and show every code? `configuration`: exactly a byte 0 or 1 for each gate. Numbers: 1 for yes, 0 for no. Refused
- * with 1 to 10. */
+ * with 1 to 7, 9 and 10. */
 enum {
     PEERIEWICK_MARK_YES = 0
 };
@@ -111,7 +110,7 @@ uint8_t peeriewick_mark(const uint8_t *map, size_t map_len,
                         size_t *numbers, size_t numbers_len);
 
 /* Writes where each gate stands in a search. `configuration`: exactly a byte 0 or 1 for each gate, with the codes kept. `out`: room for a byte per gate, written: 1 in the
- * cone, plus 2 in the front, plus 4 interesting. Numbers: the sizes of front and interest set. Refused with 1 to 11 and 14. */
+ * cone, plus 2 in the front, plus 4 interesting. Numbers: the sizes of front and interest set. Refused with 1 to 7, 9 to 11 and 14. */
 enum {
     PEERIEWICK_SURVEY_FRONT = 0,
     PEERIEWICK_SURVEY_INTEREST = 1
@@ -122,8 +121,9 @@ uint8_t peeriewick_survey(const uint8_t *map, size_t map_len,
                           size_t *numbers, size_t numbers_len);
 
 /* Does one tape entry. `configuration`: exactly a byte 0 or 1 for each gate, with the codes kept; it becomes the new one. `entry`: exactly 4 bytes: draw (two bytes, the lower
- * first), kind (0 greedy, 1 down, 2 up), option. `work`: room for a byte per gate, written: the survey of the new configuration. Numbers: the drawn gate, how
- * many values were turned (1 to 8). Refused with 1 to 15. */
+ * first), kind (0 greedy, 1 down, 2 up), option. `work`: room for a byte per gate, written: the survey of the new configuration. Where the drawn gate is coded and each of its
+ * options would turn a coded gate the move is stuck: the configuration stays as it was, and `work` gets its survey. Numbers: the drawn gate, how many values were turned (0 to 8, 0 exactly
+ * where it is stuck). Refused with 1 to 7 and 9 to 15. */
 enum {
     PEERIEWICK_MOVE_GATE = 0,
     PEERIEWICK_MOVE_TURNED = 1
@@ -134,13 +134,20 @@ uint8_t peeriewick_move(const uint8_t *map, size_t map_len,
                         uint8_t *work, size_t work_len,
                         size_t *numbers, size_t numbers_len);
 
-/* Does the tape's entries until the front is empty (Found) or the tape is used up (Spent). The front is tested before each entry and after the last:
- * an empty one is Found, on an empty tape too. `configuration`: as for move; it becomes the last one. `tape`: entries of 4 bytes, at most 65,532 bytes. `work`: room
- * for a byte per gate, written: the survey of the last configuration. `answer`: room for a byte per gate; Found writes the values of all gates in a state that shows the codes (the
- * state itself is the bytes at the inputs), Spent leaves it as it was. Numbers: 1 for Found and 0 for Spent, moves (at most 16,383), flips (at most 131,064), the front's size, which is 0 for Found.
- * Refused with 1 to 14. */
+/* How a run ends: the first of its numbers. Stuck comes only where no state shows the codes; Spent says nothing of that. */
 enum {
-    PEERIEWICK_RUN_FOUND = 0,
+    PEERIEWICK_SPENT = 0, /* the tape is used up */
+    PEERIEWICK_FOUND = 1, /* the front is empty */
+    PEERIEWICK_STUCK = 2  /* the next entry draws a coded gate, each of whose options would turn a coded gate */
+};
+
+/* Does the tape's entries until the front is empty (Found), the tape is used up (Spent) or an entry is stuck as a move is (Stuck; that entry is undone and not counted). The front is tested
+ * before each entry and after the last: an empty one is Found, on an empty tape too. `configuration`: as for move; it becomes the last one. `tape`: entries of 4 bytes, at most 65,532 bytes. `work`: room
+ * for a byte per gate, written: the survey of the last configuration. `answer`: room for a byte per gate; Found writes the values of all gates in a state that shows the codes (the
+ * state itself is the bytes at the inputs), Spent and Stuck leave it as it was. Numbers: the ending, moves (at most 16,383), flips (at most 131,064), the front's size for Spent, 0 for
+ * Found and for Stuck. Refused with 1 to 7 and 9 to 14. */
+enum {
+    PEERIEWICK_RUN_ENDING = 0,
     PEERIEWICK_RUN_MOVES = 1,
     PEERIEWICK_RUN_FLIPS = 2,
     PEERIEWICK_RUN_FRONT = 3

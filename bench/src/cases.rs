@@ -46,7 +46,7 @@ fn random_size(random: &mut Random) -> usize {
 }
 
 fn random_circuit(random: &mut Random, size: usize) -> Circuit {
-    let (input_rate, hidden_rate, code_rate) = (1 + random.below(6), 1 + random.below(12), 1 + random.below(4));
+    let (input_rate, hidden_rate) = (1 + random.below(6), 1 + random.below(12));
     let mut usable: Vec<u16> = Vec::new();
     let mut gates = Vec::new();
     for number in 0..size as u16 {
@@ -57,13 +57,23 @@ fn random_circuit(random: &mut Random, size: usize) -> Circuit {
         }
     }
     let mut circuit = Circuit { gates, codes: Vec::new() };
-    let has_parent = circuit.has_parent();
-    let childless = (0..size).filter(|&gate| !has_parent[gate]);
-    circuit.codes = childless.filter(|_| !random.once_in(code_rate + 1)).map(|gate| (gate as u16, 0)).collect();
-    for code in &mut circuit.codes {
-        code.1 = random.below(2) as u8;
-    }
+    circuit.codes = random_codes(random, &circuit);
     circuit
+}
+
+/// Codes on most gates that have no parent, and on none, some or most of the others. Some state shows them, or all but a few, or they are arbitrary.
+fn random_codes(random: &mut Random, circuit: &Circuit) -> Vec<(u16, u8)> {
+    let (code_rate, inner_rate) = (1 + random.below(4), [0, 0, 1, 3, 6][random.below(5)]);
+    let turned_rate = [0, 8, 2][random.below(3)];
+    let shown = circuit.evaluate(&random.bits(circuit.inputs()));
+    let mut codes = Vec::new();
+    for (gate, has_parent) in circuit.has_parent().into_iter().enumerate() {
+        let is_coded = if has_parent { inner_rate > 0 && random.once_in(inner_rate + 1) } else { !random.once_in(code_rate + 1) };
+        if is_coded {
+            codes.push((gate as u16, shown[gate] ^ u8::from(turned_rate > 0 && random.once_in(turned_rate))));
+        }
+    }
+    codes
 }
 
 /// Evaluated or arbitrary values; the codes are kept.

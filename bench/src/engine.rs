@@ -43,6 +43,11 @@ macro_rules! engine {
 engine!(PLAIN, "plain C", plain_check, plain_evaluate, plain_survey, plain_run);
 engine!(PROVED, "Peeriewick", peeriewick_check, peeriewick_evaluate, peeriewick_survey, peeriewick_run);
 
+/// How a run ends, as the first of its numbers tells.
+pub const SPENT: usize = 0;
+pub const FOUND: usize = 1;
+pub const STUCK: usize = 2;
+
 /// The plain engine comes first everywhere.
 pub const ENGINES: [Engine; 2] = [PLAIN, PROVED];
 

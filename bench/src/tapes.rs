@@ -1,6 +1,6 @@
 //! Which tapes and starts find a state: runs of the proved engine on satisfiable maps.
 
-use crate::engine::PROVED;
+use crate::engine::{FOUND, PROVED};
 use crate::families::{Family, FAMILIES};
 use crate::random::Random;
 use crate::table::grouped;
@@ -103,7 +103,7 @@ impl Puzzle {
             let number = PROVED.run(&self.map, &mut configuration, &mix.tape(random), &mut work, &mut answer, &mut numbers);
             assert_eq!(number, 0, "the map, the start and the tape are as document 01 asks");
             sum = [sum[0] + numbers[1], sum[1] + numbers[2]];
-            if numbers[0] == 1 {
+            if numbers[0] == FOUND {
                 return Some(sum);
             }
         }

@@ -1,5 +1,6 @@
 //! Before anything is measured: both engines must agree on every input, and each run must do its whole tape.
 
+use crate::engine::SPENT;
 use crate::families::FAMILIES;
 use crate::inputs::{self, Input, RUN_MAPS, SIZES, TAPES};
 use crate::lent::{compare, Call};
@@ -29,7 +30,7 @@ fn verify_calls(input: &Input) -> Result<(), String> {
 fn verify_runs(input: &Input) -> Result<(), String> {
     for tape in TAPES {
         let numbers = accepted(input, tape, Call::Run)?;
-        if numbers[..2] != [0, input.entries(tape)] {
+        if numbers[..2] != [SPENT, input.entries(tape)] {
             return Err(format!("the {:?} tape is not done to its end", tape));
         }
     }

@@ -51,7 +51,6 @@ impl Refused {
             5 => "a first child position or the child count is wrong",
             6 => "a child isn't below its gate or doesn't ascend",
             7 => "a code's gate is past the last or doesn't ascend, or its value or zero byte is wrong",
-            8 => "a coded gate is some gate's child",
             9 => "the row or configuration has the wrong length",
             10 => "the row or configuration has a byte above 1",
             11 => "a coded gate's value isn't its code",
@@ -96,7 +95,7 @@ pub struct Counts {
     pub codes: usize,
 }
 
-/// Checks a map. Refused with 1 to 8.
+/// Checks a map. Refused with 1 to 7.
 pub fn check(map: &[u8]) -> Result<Counts, Refused> {
     let mut n = [0usize; 4];
     let number = unsafe { raw::peeriewick_check(map.as_ptr(), map.len(), n.as_mut_ptr(), n.len()) };
@@ -113,7 +112,7 @@ pub fn children(map: &[u8], gate: usize) -> &[u8] {
     &map[at..at + length]
 }
 
-/// Writes the value of every gate into `out`, for a row of one byte 0 or 1 per input, by gate number. Refused with 1 to 10 and 14.
+/// Writes the value of every gate into `out`, for a row of one byte 0 or 1 per input, by gate number. Refused with 1 to 7, 9, 10 and 14.
 pub fn evaluate(map: &[u8], row: &[u8], out: &mut [u8]) -> Result<(), Refused> {
     let number = unsafe {
         raw::peeriewick_evaluate(map.as_ptr(), map.len(), row.as_ptr(), row.len(), out.as_mut_ptr(), out.len())
@@ -121,7 +120,7 @@ pub fn evaluate(map: &[u8], row: &[u8], out: &mut [u8]) -> Result<(), Refused> {
     result(number, ())
 }
 
-/// Does the configuration obey every gate and show every code? Refused with 1 to 10.
+/// Does the configuration obey every gate and show every code? Refused with 1 to 7, 9 and 10.
 pub fn mark(map: &[u8], configuration: &[u8]) -> Result<bool, Refused> {
     let mut n = [0usize; 1];
     let number = unsafe {
@@ -145,7 +144,8 @@ pub struct Sizes {
     pub interest: usize,
 }
 
-/// Writes a byte per gate into `out`: 1 in the cone, plus 2 in the front, plus 4 interesting ([`bit`]). Refused with 1 to 11 and 14.
+/// Writes a byte per gate into `out`: 1 in the cone, plus 2 in the front, plus 4 interesting ([`bit`]). Refused with 1 to 7, 9 to 11
+/// and 14.
 #[cfg(feature = "survey")]
 pub fn survey(map: &[u8], configuration: &[u8], out: &mut [u8]) -> Result<Sizes, Refused> {
     let mut n = [0usize; 2];
@@ -165,7 +165,7 @@ pub fn survey(map: &[u8], configuration: &[u8], out: &mut [u8]) -> Result<Sizes,
     result(number, Sizes { front, interest })
 }
 
-/// The gate that an entry drew, and how many values it turned.
+/// The gate that an entry drew, and how many values it turned: 0 exactly where it is stuck.
 #[cfg(feature = "search")]
 #[derive(Debug, Clone, Copy, PartialEq, Eq, Hash)]
 pub struct Turn {
@@ -173,8 +173,9 @@ pub struct Turn {
     pub turned: usize,
 }
 
-/// Does one tape entry of 4 bytes on the configuration, and writes the survey of the new one into `work`. Refused with 1 to 15. (`move` is a reserved
-/// word.)
+/// Does one tape entry of 4 bytes on the configuration, and writes the survey of the new one into `work`. Where the drawn gate is coded and each of its
+/// options would turn a coded gate the move is stuck: 0 are turned, the configuration stays as it was, and `work` gets its survey. Refused with 1 to 7 and
+/// 9 to 15. (`move` is a reserved word.)
 #[cfg(feature = "search")]
 pub fn make_move(map: &[u8], configuration: &mut [u8], entry: &[u8], work: &mut [u8]) -> Result<Turn, Refused> {
     let mut n = [0usize; 2];
@@ -204,6 +205,9 @@ pub enum Ending {
     Found,
     /// The tape is used up, and the front has this size.
     Spent(usize),
+    /// The next entry draws a coded gate, each of whose options would turn a coded gate; it is undone and not counted. This comes only where no state shows
+    /// the codes.
+    Stuck,
 }
 
 /// A run's ending, the number of entries done and the sum of the values they turned.
@@ -215,8 +219,8 @@ pub struct Outcome {
     pub flips: usize,
 }
 
-/// Does the tape's entries until the front is empty or the tape is used up. The configuration is then the last one, `work` has its survey, and
-/// `answer` is written for [`Ending::Found`] alone. Refused with 1 to 14.
+/// Does the tape's entries until the front is empty, the tape is used up or an entry is stuck. The configuration is then the last one, `work` has its
+/// survey, and `answer` is written for [`Ending::Found`] alone. Refused with 1 to 7 and 9 to 14.
 #[cfg(feature = "search")]
 pub fn run(
     map: &[u8],
@@ -242,7 +246,12 @@ pub fn run(
             n.len(),
         )
     };
-    let [found, moves, flips, front] = n;
-    let ending = if found == 1 { Ending::Found } else { Ending::Spent(front) };
+    let [ending, moves, flips, front] = n;
+    // as the header numbers them; 0 is Spent
+    let ending = match ending {
+        1 => Ending::Found,
+        2 => Ending::Stuck,
+        _ => Ending::Spent(front),
+    };
     result(number, Outcome { ending, moves, flips })
 }

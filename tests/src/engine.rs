@@ -1,6 +1,7 @@
 //! The independent engine: check, children, evaluate, mark, survey, move, run
-//! and the program, written straight from document 01. (The place of an empty
-//! stretch of children, which it leaves open, is the C header's.)
+//! and the program, written straight from document 01 and from request F-1 of
+//! document 02, which is named where it is quoted. (The place of an empty
+//! stretch of children, which they leave open, is the C header's.)
 //!
 //! It is slow and plain on purpose. Every offset, count and length is a whole
 //! number (u64) that cannot wrap, and every numbered test is a function of its
@@ -225,21 +226,10 @@ fn fails_7(map: &[u8]) -> bool {
     false
 }
 
-/// "8. A coded gate is some gate's child." with "A coded gate is nobody's
-/// child."
-fn fails_8(map: &[u8]) -> bool {
-    let children = child_records(map);
-    for code in code_records(map) {
-        if children.contains(&code.gate) {
-            return true;
-        }
-    }
-    false
-}
-
 /// "**Check** returns counts of gates, inputs, children and codes." and "Each
 /// test runs over all it concerns before the next. A call declines on these
-/// conditions only, with the first that holds".
+/// conditions only, with the first that holds". Test 8 is gone, by F-1: "a
+/// coded gate may now be a child" and "Number 8 is no longer given."
 pub fn check(map: &[u8]) -> Result<Counts, u8> {
     if fails_1(map) {
         return Err(1);
@@ -261,9 +251,6 @@ pub fn check(map: &[u8]) -> Result<Counts, u8> {
     }
     if fails_7(map) {
         return Err(7);
-    }
-    if fails_8(map) {
-        return Err(8);
     }
     let c = contents(map);
     let mut inputs = 0;
@@ -427,8 +414,8 @@ fn fails_11(map: &[u8], configuration: &[u8]) -> bool {
     false
 }
 
-/// Tests 1 to 11 in order, which Survey, Move and Run share.
-fn tests_1_to_11(map: &[u8], configuration: &[u8]) -> Result<Counts, u8> {
+/// The tests up to 11 in order, which Survey, Move and Run share.
+fn tests_to_11(map: &[u8], configuration: &[u8]) -> Result<Counts, u8> {
     let counts = check(map)?;
     if configuration.len() as u64 != counts.gates {
         return Err(9);
@@ -544,11 +531,11 @@ fn write_survey(circuit: &Circuit, configuration: &[u8], output: &mut [u8]) -> (
 
 /// "**Survey** writes one byte per gate: 1 if in the cone, plus 2 if in the
 /// front, plus 4 if interesting, and returns the sizes of front and interest
-/// set." Numbers 1 to 11 and 14 apply, in that order; a declined call "leaves
+/// set." Numbers 1 to 7, 9 to 11 and 14 apply, in that order; a declined call "leaves
 /// all lent memory untouched", and of longer memory "the surplus is never
 /// touched."
 pub fn survey(map: &[u8], configuration: &[u8], output: &mut [u8]) -> Result<(u64, u64), u8> {
-    let counts = tests_1_to_11(map, configuration)?;
+    let counts = tests_to_11(map, configuration)?;
     if (output.len() as u64) < counts.gates {
         return Err(14);
     }
@@ -611,13 +598,14 @@ fn interest_size(circuit: &Circuit, configuration: &[u8]) -> u64 {
 }
 
 /// "of the options with the smallest interest set after the move, in rising
-/// order". No option turns a coded gate, which is nobody's child.
+/// order". Only asked for options that are left: they turn no coded gate, so
+/// that Survey accepts what they leave.
 fn with_smallest_interest(circuit: &Circuit, configuration: &[u8], options: &[Vec<usize>]) -> Vec<Vec<usize>> {
     let mut sizes = Vec::new();
     for option in options {
         sizes.push(interest_size(circuit, &with_turned(configuration, option)));
     }
-    let smallest = *sizes.iter().min().expect("a gate of the front has an option");
+    let smallest = *sizes.iter().min().expect("only asked where some option is left");
     let mut list = Vec::new();
     for (option, size) in options.iter().zip(sizes) {
         if size == smallest {
@@ -636,47 +624,87 @@ fn is_coded(circuit: &Circuit, number: usize) -> bool {
     circuit.codes.iter().any(|(gate, _)| *gate == number)
 }
 
-/// The gates that an entry turns once its gate is drawn. "Down: option modulo
-/// the number of options. Up: turn the drawn gate itself, option byte unread.
-/// On a coded gate, up acts as down. Greedy: of the options with the smallest
-/// interest set after the move, in rising order, the one at option modulo
-/// their number."
-fn turned_by(circuit: &Circuit, configuration: &[u8], drawn: usize, entry: &Entry) -> Vec<usize> {
-    let options = down_options(circuit, configuration, drawn);
+/// F-1: "A down option counts only if it turns no coded gate". Those that count,
+/// in their order: "numbering and modulo run over those left."
+fn options_left(circuit: &Circuit, configuration: &[u8], drawn: usize) -> Vec<Vec<usize>> {
+    let mut left = Vec::new();
+    for option in down_options(circuit, configuration, drawn) {
+        if !option.iter().any(|gate| is_coded(circuit, *gate)) {
+            left.push(option);
+        }
+    }
+    left
+}
+
+/// The gates that an entry turns once its gate is drawn and some option is left.
+/// "Down: option modulo the number of options. Up: turn the drawn gate itself,
+/// option byte unread. On a coded gate, up acts as down. Greedy: of the options
+/// with the smallest interest set after the move, in rising order, the one at
+/// option modulo their number."
+fn turned_by(circuit: &Circuit, configuration: &[u8], drawn: usize, entry: &Entry, left: &[Vec<usize>]) -> Vec<usize> {
     match entry.kind {
-        GREEDY => option_at(entry.option, &with_smallest_interest(circuit, configuration, &options)),
-        DOWN => option_at(entry.option, &options),
-        UP if is_coded(circuit, drawn) => option_at(entry.option, &options),
+        GREEDY => option_at(entry.option, &with_smallest_interest(circuit, configuration, left)),
+        DOWN => option_at(entry.option, left),
+        UP if is_coded(circuit, drawn) => option_at(entry.option, left),
         UP => vec![drawn],
         _ => panic!("test 13 declines such a kind"),
     }
 }
 
-/// Does one entry and returns the drawn gate and how many values it turned:
-/// "the gate drawn stands at place draw modulo front size, counted from 0." Only
-/// asked where the front isn't empty.
-fn do_entry(circuit: &Circuit, configuration: &mut [u8], entry: &Entry) -> (u64, u64) {
+/// The gates that an entry turns once its gate is drawn, or None for Stuck. F-1:
+/// "If none is left and the drawn gate is uncoded, the gate itself is turned,
+/// whatever the kind. If none is left and it is coded, the run or move ends
+/// Stuck".
+fn turned_or_stuck(circuit: &Circuit, configuration: &[u8], drawn: usize, entry: &Entry) -> Option<Vec<usize>> {
+    let left = options_left(circuit, configuration, drawn);
+    if !left.is_empty() {
+        return Some(turned_by(circuit, configuration, drawn, entry, &left));
+    }
+    if is_coded(circuit, drawn) {
+        return None;
+    }
+    Some(vec![drawn])
+}
+
+/// What came of an entry: the drawn gate, and how many values were turned where
+/// it was done.
+enum Step {
+    Done(u64, u64),
+    Stuck(u64),
+}
+
+/// Does one entry: "the gate drawn stands at place draw modulo front size,
+/// counted from 0." Where it is Stuck, F-1 leaves "that entry undone". Only asked
+/// where the front isn't empty.
+fn do_entry(circuit: &Circuit, configuration: &mut [u8], entry: &Entry) -> Step {
     let cone = cone_of(circuit, configuration);
     let front = listed(&front_of(circuit, configuration, &cone));
     let drawn = front[(entry.draw % front.len() as u64) as usize];
-    let turned = turned_by(circuit, configuration, drawn, entry);
-    let after = with_turned(configuration, &turned);
-    configuration.copy_from_slice(&after);
-    (drawn as u64, turned.len() as u64)
+    match turned_or_stuck(circuit, configuration, drawn, entry) {
+        Some(turned) => {
+            let after = with_turned(configuration, &turned);
+            configuration.copy_from_slice(&after);
+            Step::Done(drawn as u64, turned.len() as u64)
+        }
+        None => Step::Stuck(drawn as u64),
+    }
 }
 
 /// "**Move** does one entry and returns the drawn gate and how many values it
 /// turned (1 to 8). The lent configuration is then the new one, and the first
-/// bytes of the work memory, one per gate, are its survey." Numbers 1 to 15
-/// apply, in that order; a declined call "leaves all lent memory untouched",
-/// and of longer memory "the surplus is never touched."
+/// bytes of the work memory, one per gate, are its survey." F-1, where it ends
+/// Stuck: "Move then returns the drawn gate and 0 turned", with "the work memory
+/// filled as after Spent": with the survey of the configuration, which is as it
+/// was. Numbers 1 to 7 and 9 to 15 apply, in that order; a declined call "leaves
+/// all lent memory untouched", and of longer memory "the surplus is never
+/// touched."
 pub fn make_move(
     map: &[u8],
     configuration: &mut [u8],
     entry: &[u8],
     work: &mut [u8],
 ) -> Result<(u64, u64), u8> {
-    let counts = tests_1_to_11(map, configuration)?;
+    let counts = tests_to_11(map, configuration)?;
     if entry.len() != 4 {
         return Err(12);
     }
@@ -692,17 +720,22 @@ pub fn make_move(
     if size_of(&front_of(&circuit, configuration, &cone)) == 0 {
         return Err(15);
     }
-    let outcome = do_entry(&circuit, configuration, &entry);
+    let step = do_entry(&circuit, configuration, &entry);
     write_survey(&circuit, configuration, work);
-    Ok(outcome)
+    match step {
+        Step::Done(gate, turned) => Ok((gate, turned)),
+        Step::Stuck(gate) => Ok((gate, 0)),
+    }
 }
 
 /// "a struct holding the ending enum Found, Spent(front), Refused(number)
-/// beside two counts."
+/// beside two counts." F-1 adds Stuck; only "Spent also carries the front's
+/// size."
 #[derive(Debug, Clone, Copy, PartialEq, Eq)]
 pub enum Ending {
     Found,
     Spent(u64),
+    Stuck,
     Refused(u8),
 }
 
@@ -725,9 +758,9 @@ fn fails_13(tape: &[u8]) -> bool {
     tape.chunks(4).any(|bytes| entry_of(bytes).kind > 2)
 }
 
-/// Tests 1 to 14 in order, as they concern Run.
+/// The tests up to 14 in order, as they concern Run.
 fn run_tests(map: &[u8], configuration: &[u8], tape: &[u8], work: &[u8], answer: &[u8]) -> Result<(), u8> {
-    let counts = tests_1_to_11(map, configuration)?;
+    let counts = tests_to_11(map, configuration)?;
     if fails_12(tape) {
         return Err(12);
     }
@@ -761,6 +794,8 @@ fn write_answer(circuit: &Circuit, configuration: &[u8], answer: &mut [u8]) {
 /// carries the front's size. Moves is the number of entries done, flips the sum
 /// of values turned." and "After either ending the configuration is the last
 /// one and the first bytes of the work memory, one per gate, are its survey."
+/// F-1: a run that is Stuck ends "with that entry undone and uncounted, answer
+/// memory untouched and the work memory filled as after Spent."
 /// A declined call "leaves all lent memory untouched; the other numbers of its
 /// answer, as Run's moves and flips, are then 0."
 pub fn run(map: &[u8], configuration: &mut [u8], tape: &[u8], work: &mut [u8], answer: &mut [u8]) -> Answer {
@@ -778,10 +813,14 @@ pub fn run(map: &[u8], configuration: &mut [u8], tape: &[u8], work: &mut [u8], a
         if place == tape.len() {
             return Answer { ending: Ending::Spent(front), moves, flips };
         }
-        let (_, turned) = do_entry(&circuit, configuration, &entry_of(&tape[place..place + 4]));
-        moves += 1;
-        flips += turned;
-        place += 4;
+        match do_entry(&circuit, configuration, &entry_of(&tape[place..place + 4])) {
+            Step::Done(_, turned) => {
+                moves += 1;
+                flips += turned;
+                place += 4;
+            }
+            Step::Stuck(_) => return Answer { ending: Ending::Stuck, moves, flips },
+        }
     }
 }
 
@@ -815,8 +854,9 @@ fn row_digits(map: &[u8], answer: &[u8]) -> String {
 }
 
 /// "prints a line: `FOUND moves flips row`, `SPENT moves flips front` or
-/// `REFUSED number`". The line without its end. The program lends memories of
-/// its own, as long as the largest map needs, so number 14 never comes.
+/// `REFUSED number`", and by F-1 "`STUCK moves flips`". The line without its
+/// end. The program lends memories of its own, as long as the largest map needs,
+/// so number 14 never comes.
 pub fn program(input: &[u8]) -> String {
     let (map, configuration, tape) = match bodies_of(input) {
         Some(bodies) => bodies,
@@ -828,6 +868,7 @@ pub fn program(input: &[u8]) -> String {
     match ending {
         Ending::Found => format!("FOUND {moves} {flips} {}", row_digits(map, &answer)),
         Ending::Spent(front) => format!("SPENT {moves} {flips} {front}"),
+        Ending::Stuck => format!("STUCK {moves} {flips}"),
         Ending::Refused(number) => format!("REFUSED {number}"),
     }
 }

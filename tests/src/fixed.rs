@@ -4,6 +4,7 @@ mod check;
 mod circuits;
 mod evaluate;
 mod fronts;
+mod inner_codes;
 mod longer_runs;
 mod mark;
 mod moves;
@@ -12,10 +13,11 @@ mod program;
 mod readings;
 mod runs;
 mod runs_refused;
+mod stuck;
 mod survey;
 
 pub use self::circuits::adder;
-pub use self::program::{longest, longest_with};
+pub use self::program::{longest, longest_stuck, longest_with};
 
 use self::circuits::*;
 use crate::engine::{AND, DOWN, GREEDY, INPUT, NOT, OR, UP, XOR};
@@ -134,6 +136,13 @@ fn spent((moves, flips, front): (usize, usize, usize), after: [&str; 2], surplus
     format!("SPENT {moves} {flips} {front} {} {work} {answer}", memory(after[0], 0))
 }
 
+/// The expected line of a run that is Stuck: moves and flips, then configuration
+/// and survey as digits. The answer memory is untouched.
+fn stuck_line((moves, flips): (usize, usize), after: [&str; 2], surplus: (usize, usize)) -> String {
+    let (work, answer) = (memory(after[1], surplus.0), "aa".repeat(digits(after[0]).len() + surplus.1));
+    format!("STUCK {moves} {flips} {} {work} {answer}", memory(after[0], 0))
+}
+
 /// The expected line of a refused run: no memory is touched.
 fn not_run(number: u8, start: &[u8], rooms: (usize, usize)) -> String {
     let untouched = |room: usize| hex(&vec![PATTERN; room]);
@@ -202,6 +211,12 @@ impl List {
         self.make_move(name, map, &before, &entry, before.len(), &line);
     }
 
+    /// A move that is Stuck: the drawn gate and 0 turned, the configuration as it
+    /// was, and its survey.
+    fn unturned(&mut self, name: &str, map: &[u8], configuration: &str, entry: [u8; 4], gate: usize, bytes: &str) {
+        self.moved(name, map, configuration, entry, (gate, 0), configuration, bytes);
+    }
+
     /// A refused move; the name says the number too.
     fn unmoved(&mut self, name: &str, number: u8, map: &[u8], configuration: &[u8], entry: &[u8], room: usize) {
         let line = unmoved(number, configuration, room);
@@ -235,6 +250,13 @@ impl List {
         self.run(name, map, &start, (&tape.0.concat(), tape.1), rooms, &spent(counts, after, (0, 0)));
     }
 
+    /// A run that is Stuck, with memories of exactly the gate count.
+    fn stuck(&mut self, name: &str, map: &[u8], start: &str, tape: Tape, counts: (usize, usize), after: [&str; 2]) {
+        let start = digits(start);
+        let rooms = (start.len(), start.len());
+        self.run(name, map, &start, (&tape.0.concat(), tape.1), rooms, &stuck_line(counts, after, (0, 0)));
+    }
+
     /// A run that finds, and the program on the same; `after` has the row last.
     fn both_found(&mut self, name: &str, map: &[u8], start: &str, tape: Tape, counts: (usize, usize), after: [&str; 4]) {
         self.found(name, map, start, tape, counts, [after[0], after[1], after[2]]);
@@ -246,6 +268,13 @@ impl List {
     fn both_spent(&mut self, name: &str, map: &[u8], start: &str, tape: Tape, counts: (usize, usize, usize), after: [&str; 2]) {
         self.spent(name, map, start, tape, counts, after);
         let line = format!("SPENT {} {} {}", counts.0, counts.1, counts.2);
+        self.program(name, map, &digits(start), (&tape.0.concat(), tape.1), &line);
+    }
+
+    /// A run that is Stuck, and the program on the same.
+    fn both_stuck(&mut self, name: &str, map: &[u8], start: &str, tape: Tape, counts: (usize, usize), after: [&str; 2]) {
+        self.stuck(name, map, start, tape, counts, after);
+        let line = format!("STUCK {} {}", counts.0, counts.1);
         self.program(name, map, &digits(start), (&tape.0.concat(), tape.1), &line);
     }
 
@@ -284,10 +313,12 @@ pub fn fixed() -> Vec<Named> {
         fronts::large,
         moves_refused::refused,
         moves_refused::precedence,
+        inner_codes::inner_codes,
         runs::runs,
         longer_runs::longer_runs,
         runs_refused::refused,
         runs_refused::precedence,
+        stuck::stuck,
         program::inputs_refused,
         program::rows,
         program::refused,

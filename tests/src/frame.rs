@@ -194,7 +194,7 @@ fn with_configuration(word: String, configuration: &[u8]) -> String {
 }
 
 /// "`FOUND moves flips conf work answer`, `SPENT moves flips front conf work
-/// answer` or `REFUSED n conf work answer`"
+/// answer`, `STUCK moves flips conf work answer` or `REFUSED n conf work answer`"
 fn run_line(case: &Case) -> String {
     let mut configuration = case.body.clone();
     let mut work = vec![PATTERN; case.room];
@@ -203,6 +203,7 @@ fn run_line(case: &Case) -> String {
     let mut line = match outcome.ending {
         Ending::Found => format!("FOUND {} {}", outcome.moves, outcome.flips),
         Ending::Spent(front) => format!("SPENT {} {} {front}", outcome.moves, outcome.flips),
+        Ending::Stuck => format!("STUCK {} {}", outcome.moves, outcome.flips),
         Ending::Refused(number) => format!("REFUSED {number}"),
     };
     for memory in [configuration, work, answer] {

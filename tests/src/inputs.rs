@@ -2,7 +2,7 @@
 //! input goes into a pipe.
 
 use crate::engine::DOWN;
-use crate::fixed::{adder, longest, longest_with};
+use crate::fixed::{adder, longest, longest_stuck, longest_with};
 use crate::frame::Case;
 use crate::random::program_inputs;
 
@@ -13,14 +13,15 @@ fn p3() -> Vec<u8> {
     Case::program(&adder(), &P3_START, (&[0, 0, DOWN, 0], 1)).whole_input()
 }
 
-/// Inputs of exactly 65,536 bytes, by the ending of their runs. The last byte decides the row of those found; in `refused` the kind of the last entry
-/// is above 2.
-fn longest_inputs() -> [(&'static str, Vec<u8>); 4] {
+/// Inputs of exactly 65,536 bytes, by the ending of their runs. The last byte decides the row of those found; in `stuck` the last entry draws the gate that
+/// is Stuck, and in `refused` its kind is above 2.
+fn longest_inputs() -> [(&'static str, Vec<u8>); 5] {
     let down = |option| [0, 0, DOWN, option];
     [
         ("found-011", longest_with([down(1), down(0), down(1)])),
         ("found-101", longest_with([down(1), down(0), down(0)])),
         ("spent", longest(0)),
+        ("stuck", longest_stuck()),
         ("refused", longest_with([down(1), down(0), [0, 0, 3, 1]])),
     ]
 }
@@ -34,7 +35,7 @@ pub fn inputs() -> Vec<(String, Vec<u8>)> {
         }
         list.push((String::from(name), input));
     }
-    let random = program_inputs(2, 6).into_iter().enumerate();
+    let random = program_inputs(5, 6).into_iter().enumerate();
     list.extend(random.map(|(number, input)| (format!("random-{number}"), input)));
     list
 }

@@ -1,4 +1,4 @@
-//! The independent engine, written from documents 00 and 01, and what makes cases for it and for the proved one.
+//! The independent engine, written from documents 00 and 01 and request F-1 of document 02, and what makes cases for it and for the proved one.
 
 pub mod dice;
 pub mod engine;
@@ -10,5 +10,7 @@ pub mod random;
 
 #[cfg(test)]
 mod call_tests;
+#[cfg(test)]
+mod option_tests;
 #[cfg(test)]
 mod run_tests;

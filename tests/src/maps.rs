@@ -96,13 +96,10 @@ pub fn gate_lists(n: u16) -> Vec<Gates> {
     lists
 }
 
-/// Every choice of codes: none, 0 or 1 for each gate that is nobody's child.
-pub fn code_lists(gates: &Gates) -> Vec<Vec<(u16, u8)>> {
+/// Every choice of codes for `n` gates: none, 0 or 1 for each.
+pub fn code_lists(n: u16) -> Vec<Vec<(u16, u8)>> {
     let mut lists = vec![vec![]];
-    for gate in 0..gates.len() as u16 {
-        if gates.iter().any(|(_, children)| children.contains(&gate)) {
-            continue;
-        }
+    for gate in 0..n {
         let mut longer = lists.clone();
         for list in &lists {
             longer.push([&list[..], &[(gate, 0)]].concat());
@@ -117,10 +114,25 @@ pub fn code_lists(gates: &Gates) -> Vec<Vec<(u16, u8)>> {
 pub fn maps_of(n: u16) -> Vec<Vec<u8>> {
     let mut maps = Vec::new();
     for gates in gate_lists(n) {
-        maps.extend(code_lists(&gates).iter().map(|codes| build(&gates, codes)));
+        maps.extend(code_lists(n).iter().map(|codes| build(&gates, codes)));
     }
     assert!(maps.iter().all(|map| engine::check(map).is_ok()));
     maps
+}
+
+fn number_at(map: &[u8], at: usize) -> usize {
+    map[at] as usize + 256 * map[at + 1] as usize
+}
+
+/// The coded gates of an accepted map.
+pub fn coded_gates(map: &[u8]) -> Vec<usize> {
+    (0..number_at(map, 10)).map(|code| number_at(map, number_at(map, 8) + 4 * code)).collect()
+}
+
+/// Whether some coded gate of an accepted map is some gate's child.
+pub fn has_coded_child(map: &[u8]) -> bool {
+    let coded = coded_gates(map);
+    (0..number_at(map, 6)).any(|place| coded.contains(&number_at(map, number_at(map, 4) + 2 * place)))
 }
 
 /// Every configuration of `n` gates, or every row of `n` inputs.
@@ -142,10 +154,17 @@ impl Draft {
     pub fn inputs(&self) -> usize {
         self.gates.iter().filter(|(kind, _)| *kind == INPUT).count()
     }
+}
 
-    pub fn is_child(&self, gate: u16) -> bool {
-        self.gates.iter().any(|(_, children)| children.contains(&gate))
+/// For each gate whether it is some gate's child.
+pub fn are_children(gates: &[(u8, Vec<u16>)]) -> Vec<bool> {
+    let mut list = vec![false; gates.len()];
+    for (_, children) in gates {
+        for child in children {
+            list[*child as usize] = true;
+        }
     }
+    list
 }
 
 /// A gate of some kind at place `number`, allowed there.
@@ -178,8 +197,52 @@ pub fn random_gate(dice: &mut Dice, number: usize, input_share: usize) -> (u8, V
     (kind, children)
 }
 
+/// For `one_in`: never, as far as it goes.
+pub const NEVER: usize = 1_000_000;
+
+/// Values for codes on these gates: five times in eight those that the
+/// configuration shows, else the same with some turned, or any.
+pub fn random_values(dice: &mut Dice, coded: Vec<usize>, obeying: &[u8]) -> Vec<(u16, u8)> {
+    let turned = [NEVER, NEVER, NEVER, NEVER, NEVER, 10, 4, 2][dice.below(8)];
+    coded.into_iter().map(|gate| (gate as u16, obeying[gate] ^ dice.one_in(turned) as u8)).collect()
+}
+
+/// Which gates that are some gate's child are coded: none, here and there some,
+/// or all children of a few gates, which then have no option left.
+pub fn coded_children(dice: &mut Dice, gates: &[(u8, Vec<u16>)]) -> Vec<bool> {
+    let mut coded = vec![false; gates.len()];
+    match dice.below(8) {
+        0..=2 => {}
+        3 | 4 => {
+            let share = [1, 2, 3, 6][dice.below(4)];
+            coded = are_children(gates).into_iter().map(|child| child && dice.one_in(share)).collect();
+        }
+        _ => {
+            for _ in 0..1 + dice.below(1 + gates.len() / 4) {
+                for child in &gates[dice.below(gates.len())].1 {
+                    coded[*child as usize] = true;
+                }
+            }
+        }
+    }
+    coded
+}
+
+/// Codes on gates that are nobody's child, on all, some or none, and on others.
+fn random_codes(dice: &mut Dice, gates: &[(u8, Vec<u16>)], obeying: &[u8]) -> Vec<(u16, u8)> {
+    let share = [1, 1, 2, 4, NEVER][dice.below(5)];
+    let (children, inner) = (are_children(gates), coded_children(dice, gates));
+    let mut coded = Vec::new();
+    for gate in 0..gates.len() {
+        if inner[gate] || !children[gate] && dice.one_in(share) {
+            coded.push(gate);
+        }
+    }
+    random_values(dice, coded, obeying)
+}
+
 /// A valid map with the row and the configuration it was made around: the
-/// configuration obeys every gate, and at least three times in four every code.
+/// configuration obeys every gate, and at least five times in eight every code.
 pub fn random_draft(dice: &mut Dice) -> (Draft, Vec<u8>, Vec<u8>) {
     let size = match dice.below(120) {
         0 => [1024, 1023, 300 + dice.below(725)][dice.below(3)],
@@ -196,21 +259,7 @@ pub fn random_draft(dice: &mut Dice) -> (Draft, Vec<u8>, Vec<u8>) {
     let row: Vec<u8> = (0..draft.inputs()).map(|_| dice.bit()).collect();
     let mut configuration = vec![0; size];
     engine::evaluate(&draft.bytes(), &row, &mut configuration).expect("a random draft is a map");
-
-    let mut has_parent = vec![false; size];
-    for (_, children) in &draft.gates {
-        for child in children {
-            has_parent[*child as usize] = true;
-        }
-    }
-    let thin = [1, 1, 2, 4, 1_000_000][dice.below(5)];
-    let shown = dice.below(4) < 3;
-    for gate in 0..size {
-        if !has_parent[gate] && dice.one_in(thin) {
-            let value = if shown { configuration[gate] } else { dice.bit() };
-            draft.codes.push((gate as u16, value));
-        }
-    }
+    draft.codes = random_codes(dice, &draft.gates, &configuration);
     (draft, row, configuration)
 }
 
@@ -230,34 +279,19 @@ pub fn near(dice: &mut Dice, number: usize) -> u16 {
 /// Damages a draft: what comes out is framed rightly (tests 1 to 3 hold as far
 /// as sizes allow) and wrong inside, or now and then still right.
 pub fn damage_draft(dice: &mut Dice, draft: &mut Draft) -> Vec<u8> {
-    match dice.below(7) {
-        0 | 1 => code_any_gate(dice, draft),
-        2 => insert_code(dice, draft),
-        3 => change_gate(dice, draft),
+    match dice.below(5) {
+        0 => insert_code(dice, draft),
+        1 => change_gate(dice, draft),
         // Two gates change places: mostly 6.
-        4 => {
+        2 => {
             let one = dice.below(draft.gates.len());
             let other = dice.below(draft.gates.len());
             draft.gates.swap(one, other);
         }
-        5 => change_child(dice, draft),
+        3 => change_child(dice, draft),
         _ => return change_child_count(dice, draft.bytes()),
     }
     draft.bytes()
-}
-
-/// A code on any gate, ascent kept: mostly 8.
-fn code_any_gate(dice: &mut Dice, draft: &mut Draft) {
-    for _ in 0..8 {
-        let gate = dice.below(draft.gates.len()) as u16;
-        if draft.is_child(gate) || dice.one_in(4) {
-            draft.codes.retain(|(g, _)| *g != gate);
-            let value = dice.bit();
-            draft.codes.push((gate, value));
-            draft.codes.sort();
-            break;
-        }
-    }
 }
 
 /// A wrong or misplaced code: mostly 7.

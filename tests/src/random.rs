@@ -63,7 +63,8 @@ fn surveyed_bytes(map: &[u8], body: &[u8]) -> Vec<u8> {
 }
 
 /// Puts a gate with one option per child into the front: of some AND at 0 in
-/// the cone all children become 1, of some OR at 1 all become 0.
+/// the cone all children become 1, of some OR at 1 all become 0, but for those
+/// that are coded.
 fn open_choice(dice: &mut Dice, draft: &Draft, map: &[u8], body: &mut [u8]) {
     let mut choices = Vec::new();
     for (gate, byte) in surveyed_bytes(map, body).iter().enumerate() {
@@ -79,6 +80,7 @@ fn open_choice(dice: &mut Dice, draft: &Draft, map: &[u8], body: &mut [u8]) {
     for child in &draft.gates[gate].1 {
         body[*child as usize] = 1 - body[gate];
     }
+    keep_codes(draft, body);
 }
 
 /// A configuration to move: drawn again up to five times while its front is
@@ -118,7 +120,7 @@ pub fn random_entry(dice: &mut Dice) -> Vec<u8> {
 }
 
 /// Adds a gate like a coded one and codes it the other way, so that no state
-/// shows the codes and a run goes on to the tape's end.
+/// shows the codes and a run goes on to the tape's end or is Stuck.
 pub fn contradict(dice: &mut Dice, draft: &mut Draft, configuration: &mut Vec<u8>) {
     let has_children = |code: &(u16, u8)| draft.gates[code.0 as usize].0 != INPUT;
     let coded: Vec<(u16, u8)> = draft.codes.iter().cloned().filter(has_children).collect();
@@ -234,7 +236,7 @@ fn random_input(dice: &mut Dice, map: &[u8], start: &[u8], tape: (&[u8], usize))
 /// A run or an input of the program.
 fn random_run(dice: &mut Dice, op: u8) -> Case {
     let (mut draft, _, mut configuration) = draft_for(dice, op);
-    if dice.one_in(4) {
+    if dice.one_in(3) {
         contradict(dice, &mut draft, &mut configuration);
     }
     let (gates, inputs) = (draft.gates.len(), draft.inputs());

@@ -1,10 +1,11 @@
 //! What the documents say of runs, tried on all small maps and on random ones.
 
+use crate::call_tests::without_8;
 use crate::engine::*;
 use crate::fixed::adder;
 use crate::frame::*;
 use crate::inputs::{inputs, pieces};
-use crate::maps::{build, configurations, maps_of};
+use crate::maps::{build, configurations, has_coded_child, maps_of};
 use crate::random::{program_inputs, random};
 use std::collections::BTreeSet;
 
@@ -180,7 +181,8 @@ fn some_tape_finds_where_some_state_satisfies() {
             for start in starts.iter().filter(|start| !finds.contains(*start)) {
                 for entry in small_entries() {
                     let Ran { record, configuration, .. } = ran(&map, start, &entry);
-                    assert_eq!((record.moves, record.flips), (1, differing(start, &configuration) as u64));
+                    let done = (record.ending != Ending::Stuck) as u64;
+                    assert_eq!((record.moves, record.flips), (done, differing(start, &configuration) as u64));
                     steps.push((start.clone(), configuration));
                 }
             }
@@ -213,11 +215,16 @@ fn a_run_of_two_entries_is_two_runs() {
             for one in small_entries() {
                 let first = ran(&map, &start, &one);
                 for two in small_entries() {
+                    let both = ran(&map, &start, &[one, two].concat());
+                    if first.record.ending == Ending::Stuck {
+                        assert_eq!(both, first);
+                        continue;
+                    }
                     let second = ran(&map, &first.configuration, &two);
                     let moves = first.record.moves + second.record.moves;
                     let flips = first.record.flips + second.record.flips;
                     let record = record(second.record.ending, moves, flips);
-                    assert_eq!(ran(&map, &start, &[one, two].concat()), Ran { record, ..second });
+                    assert_eq!(both, Ran { record, ..second });
                 }
             }
         }
@@ -328,7 +335,8 @@ fn ran_case(case: &Case) -> Ran {
 }
 
 /// The same run by single moves: "survey; if the front is empty, end Found; if
-/// the tape is used up, end Spent; else do the next entry."
+/// the tape is used up, end Spent; else do the next entry." A move that turns
+/// nothing is Stuck.
 fn by_moves(case: &Case) -> (Answer, Vec<u8>, Vec<u8>) {
     let (mut configuration, mut work) = (case.body.clone(), vec![170; case.room]);
     let (mut moves, mut flips) = (0, 0);
@@ -346,6 +354,9 @@ fn by_moves(case: &Case) -> (Answer, Vec<u8>, Vec<u8>) {
         let before = configuration.clone();
         let (_, turned) = make_move(&case.map, &mut configuration, entry, &mut work).unwrap();
         assert_eq!(turned as usize, differing(&before, &configuration));
+        if turned == 0 {
+            return (record(Ending::Stuck, moves, flips), configuration, work);
+        }
         moves += 1;
         flips += turned;
     }
@@ -363,7 +374,7 @@ fn random_runs_are_their_moves() {
                 assert_eq!((outcome.work, outcome.answer), (vec![170; case.room], vec![170; case.answer]));
                 continue;
             }
-            Ending::Spent(_) => assert_eq!(outcome.answer, vec![170; case.answer]),
+            Ending::Spent(_) | Ending::Stuck => assert_eq!(outcome.answer, vec![170; case.answer]),
             Ending::Found => {
                 assert!(outcome.work[gates..].iter().chain(&outcome.answer[gates..]).all(|byte| *byte == 170));
                 let exact = ran(&case.map, &case.body, &case.lent_tape());
@@ -413,6 +424,7 @@ fn the_program_prints_the_run() {
                 format!("FOUND {moves} {flips} {row}")
             }
             Ending::Spent(front) => format!("SPENT {moves} {flips} {front}"),
+            Ending::Stuck => format!("STUCK {moves} {flips}"),
             Ending::Refused(number) => format!("REFUSED {number}"),
         };
         let input = Case::program(&case.map, &case.body, (&tape, 1)).whole_input();
@@ -427,7 +439,7 @@ fn the_program_prints_the_run() {
 /// turns only gates where start and assignment differ, so the run ends in time.
 #[test]
 fn random_draws_can_find_in_time() {
-    let mut tried = 0;
+    let (mut tried, mut inner) = (0, 0);
     for (number, case) in random_runs(10..16).iter().enumerate() {
         let known = ran(&case.map, &case.body, &case.lent_tape());
         if known.record.ending != Ending::Found || case.body.len() > 300 {
@@ -452,9 +464,10 @@ fn random_draws_can_find_in_time() {
         assert_eq!(record.ending, Ending::Found);
         assert!(record.moves <= count as u64 && record.flips <= count as u64);
         tried += (record.moves > 1) as u32;
+        inner += (record.moves > 1 && has_coded_child(&case.map)) as u32;
     }
-    println!("{tried} random runs of more than one move found in time");
-    assert!(tried > 100);
+    println!("{tried} random runs of more than one move found in time, {inner} with a coded child");
+    assert!(tried > 100 && inner > 30);
 }
 
 /// The runs among random cases meet every number and end in all sorts of places.
@@ -462,10 +475,10 @@ fn random_draws_can_find_in_time() {
 fn random_runs_are_not_bare() {
     let cases = random_runs(0..10);
     let (mut at_once, mut midway, mut at_the_end, mut spent, mut long, mut refused) = (0, 0, 0, 0, 0, BTreeSet::new());
-    let (mut fronts, mut most) = (0, 0);
+    let (mut fronts, mut most, mut stuck, mut stuck_later) = (0, 0, 0, 0);
     for case in &cases {
         let Answer { ending, moves, flips } = ran_case(case).record;
-        let entries = case.tape.len() as u64 / 4 * case.times as u64;
+        let entries = (case.tape.len() * case.times / 4) as u64;
         match ending {
             Ending::Found if moves == 0 => at_once += 1,
             Ending::Found if moves < entries => midway += (moves > 1) as u32,
@@ -476,6 +489,11 @@ fn random_runs_are_not_bare() {
                 long += (moves > 1000) as u32;
                 fronts += (front > 1) as u32;
             }
+            Ending::Stuck => {
+                assert!(moves < entries);
+                stuck += 1;
+                stuck_later += (moves > 1) as u32;
+            }
             Ending::Refused(number) => {
                 refused.insert(number);
             }
@@ -484,10 +502,12 @@ fn random_runs_are_not_bare() {
     }
     println!(
         "{} runs; Found: {at_once} at once, {midway} midway after several moves, {at_the_end} at the end; \
-         Spent: {spent}, {long} after 1,000 moves, {fronts} with larger fronts; most flips {most}",
+         Spent: {spent}, {long} after 1,000 moves, {fronts} with larger fronts; \
+         Stuck: {stuck}, {stuck_later} after several moves; most flips {most}",
         cases.len()
     );
-    assert_eq!(refused, (1..=14).collect());
+    assert_eq!(refused, without_8(1..=14));
+    assert!(stuck >= 200 && stuck_later >= 50);
     assert!(at_once >= 100 && midway >= 200 && at_the_end >= 20 && spent >= 300 && long >= 30 && fronts >= 100);
 }
 
@@ -495,8 +515,8 @@ fn random_runs_are_not_bare() {
 fn random_inputs_are_not_bare() {
     let lines: Vec<String> = (1..=3).flat_map(|seed| program_inputs(seed, 60)).map(|input| program(&input)).collect();
     let count = |word: &str| lines.iter().filter(|line| line.starts_with(word)).count();
-    println!("{} Found, {} Spent, {} Refused", count("FOUND"), count("SPENT"), count("REFUSED"));
-    assert!(count("FOUND") >= 40 && count("SPENT") >= 30 && count("REFUSED") >= 20 && count("REFUSED 0") >= 5);
+    println!("{} Found, {} Spent, {} Stuck, {} Refused", count("FOUND"), count("SPENT"), count("STUCK"), count("REFUSED"));
+    assert!(count("FOUND") >= 40 && count("SPENT") >= 30 && count("STUCK") >= 10 && count("REFUSED") >= 20 && count("REFUSED 0") >= 5);
     let first = program_inputs(1, 3);
     assert_eq!(first.iter().map(|input| input.len()).collect::<Vec<usize>>(), [0, 65_536, 65_537]);
     assert_eq!(lines[..3], ["REFUSED 0", "SPENT 16357 130856 1", "REFUSED 0"]);
@@ -514,6 +534,7 @@ fn inputs_that_show_how_the_program_reads() {
         ("found-011", "FOUND 16361 16361 01100"),
         ("found-101", "FOUND 16361 16361 10100"),
         ("spent", "SPENT 16357 130856 1"),
+        ("stuck", "STUCK 16351 130808"),
         ("refused", "REFUSED 13"),
     ] {
         assert_eq!((of(name).len(), program(of(name)).as_str()), (65_536, line));
@@ -525,7 +546,7 @@ fn inputs_that_show_how_the_program_reads() {
         }
     }
     let random = list.iter().filter(|(name, _)| name.starts_with("random-")).count();
-    assert_eq!(list.len(), 14 + random);
+    assert_eq!(list.len(), 17 + random);
     assert!(random >= 3);
 }
 
@@ -582,4 +603,8 @@ fn lines_of_runs() {
     assert_eq!(answer(&Case::run(&one, &[1], (&[], 0), (2, 1))), "FOUND 0 0 01 00aa 00");
     let case = Case::run(&p9(), &[0, 0, 1], (&[0, 0, DOWN, 0], 2), (3, 4));
     assert_eq!(answer(&case), "SPENT 2 3 1 000101 040407 aaaaaaaa");
+    let stuck = build(&[(INPUT, vec![]), (NOT, vec![0])], &[(0, 0), (1, 0)]);
+    let case = Case::run(&stuck, &[0, 0], (&[0, 0, DOWN, 0], 2), (3, 4));
+    assert_eq!(answer(&case), "STUCK 0 0 0000 0507aa aaaaaaaa");
+    assert_eq!(answer(&Case::program(&stuck, &[0, 0], (&[0, 0, DOWN, 0], 2))), "STUCK 0 0");
 }

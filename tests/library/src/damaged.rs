@@ -52,7 +52,8 @@ struct Parts {
     rooms: (usize, usize),
 }
 
-/// Gate 2 is an input and nobody's child; gate 6 is coded and not justified, save in a start that the fault of 15 changes.
+/// Gate 2 is an input and nobody's child; gate 6 is coded and not justified, save in a start that the fault of 15 changes. One time in two a child
+/// is coded too.
 fn base(dice: &mut Dice, kind: Kind) -> Parts {
     let value = dice.bit();
     let top = if value == 1 { OR } else { AND };
@@ -66,6 +67,8 @@ fn base(dice: &mut Dice, kind: Kind) -> Parts {
         (top, 3, 5),
     ];
     let configuration = vec![dice.bit(), dice.bit(), dice.bit(), 1 - value, 1 - value, 1 - value, value];
+    let child = [0, 1, 3, 4, 5][dice.below(5)];
+    let inner = dice.one_in(2).then_some((child as u16, configuration[child], 0));
     let tape = match kind {
         Kind::Move => vec![dice.byte(), dice.byte(), dice.below(3) as u8, dice.byte()],
         Kind::Run => [dice.byte(), dice.byte(), DOWN, dice.byte()].repeat(1 + dice.below(3)),
@@ -75,7 +78,7 @@ fn base(dice: &mut Dice, kind: Kind) -> Parts {
         kind,
         gates,
         children: vec![0, 1, 0, 1, 3, 3, 4, 5],
-        codes: vec![(6, value, 0)],
+        codes: inner.into_iter().chain([(6, value, 0)]).collect(),
         frame_faults: vec![],
         body: if kind == Kind::Evaluate { configuration[..3].to_vec() } else { configuration },
         tape,
@@ -129,15 +132,6 @@ fn wrong_code(dice: &mut Dice, parts: &mut Parts) {
         2 => parts.codes[last].1 = 2 + dice.byte() % 254,
         _ => parts.codes[last].2 = 1 + dice.byte() % 255,
     }
-}
-
-/// A code on a child, with the value it has.
-fn coded_child(dice: &mut Dice, parts: &mut Parts) {
-    let only_inputs = parts.codes[0].0 == 2;
-    let gate = if only_inputs { dice.below(2) } else { [0, 1, 3, 4, 5][dice.below(5)] };
-    let value = parts.body.get(gate).map_or(0, |byte| byte & 1);
-    parts.codes.push((gate as u16, value, 0));
-    parts.codes.sort();
 }
 
 fn wrong_length(dice: &mut Dice, parts: &mut Parts) {
@@ -205,7 +199,6 @@ fn put_fault(dice: &mut Dice, parts: &mut Parts, number: usize) {
         5 => wrong_position(dice, parts),
         6 => wrong_child(dice, parts),
         7 => wrong_code(dice, parts),
-        8 => coded_child(dice, parts),
         9 => wrong_length(dice, parts),
         10 => wrong_byte(dice, parts),
         11 => broken_code(parts),
@@ -239,7 +232,7 @@ fn map_of(dice: &mut Dice, parts: &Parts) -> Vec<u8> {
 }
 
 /// The order in which faults are put in: 15 sets the codes that others change, and 1 and 3 come when the bytes stand.
-const ORDER: [usize; 15] = [15, 2, 14, 4, 5, 6, 8, 7, 11, 9, 10, 12, 13, 3, 1];
+const ORDER: [usize; 14] = [15, 2, 14, 4, 5, 6, 7, 11, 9, 10, 12, 13, 3, 1];
 
 /// A call with these faults put in; some hide others.
 fn with_faults(dice: &mut Dice, kind: Kind, faults: &[usize]) -> Call {

@@ -96,10 +96,17 @@ fn place_of(stretch: &[u8], map: &[u8]) -> Vec<usize> {
     vec![(stretch.as_ptr() as usize).wrapping_sub(map.as_ptr() as usize), stretch.len()]
 }
 
+/// How a host is told of a run's ending: the first of its numbers.
+pub const SPENT: usize = 0;
+pub const FOUND: usize = 1;
+pub const STUCK: usize = 2;
+
 fn told_by_run(answer: Answer) -> Told {
+    let numbers = |ending: usize, front: u64| told(Ok(whole(&[ending as u64, answer.moves, answer.flips, front])));
     match answer.ending {
-        Ending::Found => told(Ok(whole(&[1, answer.moves, answer.flips, 0]))),
-        Ending::Spent(front) => told(Ok(whole(&[0, answer.moves, answer.flips, front]))),
+        Ending::Found => numbers(FOUND, 0),
+        Ending::Spent(front) => numbers(SPENT, front),
+        Ending::Stuck => numbers(STUCK, 0),
         Ending::Refused(number) => told(Err(number)),
     }
 }
@@ -150,8 +157,9 @@ fn tell_wrapped(call: &mut Call) -> Told {
         Kind::Survey => peeriewick::survey(map, body, memory).map(|sizes| vec![sizes.front, sizes.interest]),
         Kind::Move => peeriewick::make_move(map, body, &call.tape, memory).map(|turn| vec![turn.gate, turn.turned]),
         Kind::Run => peeriewick::run(map, body, &call.tape, memory, &mut call.answer).map(|ran| match ran.ending {
-            peeriewick::Ending::Found => vec![1, ran.moves, ran.flips, 0],
-            peeriewick::Ending::Spent(front) => vec![0, ran.moves, ran.flips, front],
+            peeriewick::Ending::Found => vec![FOUND, ran.moves, ran.flips, 0],
+            peeriewick::Ending::Spent(front) => vec![SPENT, ran.moves, ran.flips, front],
+            peeriewick::Ending::Stuck => vec![STUCK, ran.moves, ran.flips, 0],
         }),
     };
     told(answer.map_err(|refused| refused.0))

@@ -2,10 +2,11 @@
 
 use crate::call::{Call, Kind, KINDS};
 use crate::dress::{dressed, enough};
+use crate::engines::Told;
 use crate::harness::Harness;
 use peeriewick_tests::dice::Dice;
 use peeriewick_tests::engine::{DOWN, GREEDY, INPUT, UP};
-use peeriewick_tests::maps::{configurations, maps_of, raw};
+use peeriewick_tests::maps::{configurations, has_coded_child, maps_of, raw};
 
 type Tried = Result<(), String>;
 
@@ -24,11 +25,8 @@ pub fn exhaustive(harness: &mut Harness) -> Tried {
             all.search_calls(&map, n, &entries(3, 4), &two)?;
         }
     }
-    let few = entries(2, 3);
-    let single: Vec<Vec<u8>> = few.iter().map(|entry| entry.to_vec()).collect();
     for map in maps_of(4) {
-        all.state_calls(&map, 4)?;
-        all.search_calls(&map, 4, &few, &single)?;
+        all.four_gates(&map)?;
     }
     all.one_gate()?;
     all.two_gates()?;
@@ -59,10 +57,10 @@ fn tapes(entries: &[[u8; 4]]) -> Vec<Vec<u8>> {
 
 impl Exhaustive<'_> {
     /// With memories that are long enough for `n` gates.
-    fn call(&mut self, call: Call, n: u16) -> Tried {
+    fn call(&mut self, call: Call, n: u16) -> Result<Told, String> {
         let rooms = (enough(&mut self.dice, n as usize), enough(&mut self.dice, n as usize));
         let call = dressed(&mut self.dice, call, rooms);
-        self.harness.compare(&call).map(|_| ())
+        self.harness.compare(&call)
     }
 
     /// Check, children of every gate and past the end, evaluate on every row, mark on every configuration.
@@ -99,18 +97,38 @@ impl Exhaustive<'_> {
         Ok(())
     }
 
-    /// Survey, move and run from every start, also those that break a code.
+    /// Survey, move and run from every start; from those that break a code, which are refused, with the first entries and tapes alone.
     fn search_calls(&mut self, map: &[u8], n: u16, entries: &[[u8; 4]], tapes: &[Vec<u8>]) -> Tried {
         for start in configurations(n) {
-            self.call(Call::new(Kind::Survey, map).with_body(&start), n)?;
-            for entry in entries {
+            let told = self.call(Call::new(Kind::Survey, map).with_body(&start), n)?;
+            let (moves, runs) = if told.number == 0 { (entries.len(), tapes.len()) } else { (4, 4) };
+            for entry in &entries[..moves] {
                 self.call(Call::new(Kind::Move, map).with_body(&start).with_tape(entry), n)?;
             }
-            for tape in tapes {
+            for tape in &tapes[..runs] {
                 self.call(Call::new(Kind::Run, map).with_body(&start).with_tape(tape), n)?;
             }
             self.short_memories(map, &start)?;
             self.wrong_tapes(map, &start, n)?;
+        }
+        Ok(())
+    }
+
+    /// A map of four gates: check, survey, and single entries from every start that keeps the codes. The other calls, which no code changes but for
+    /// mark's answer, where no child is coded: such maps are a tenth.
+    fn four_gates(&mut self, map: &[u8]) -> Tried {
+        match has_coded_child(map) {
+            true => self.call(Call::new(Kind::Check, map), 4).map(|_| ())?,
+            false => self.state_calls(map, 4)?,
+        }
+        for start in configurations(4) {
+            if self.call(Call::new(Kind::Survey, map).with_body(&start), 4)?.number != 0 {
+                continue;
+            }
+            for entry in entries(2, 3) {
+                self.call(Call::new(Kind::Move, map).with_body(&start).with_tape(&entry), 4)?;
+                self.call(Call::new(Kind::Run, map).with_body(&start).with_tape(&entry), 4)?;
+            }
         }
         Ok(())
     }
@@ -153,7 +171,7 @@ impl Exhaustive<'_> {
         if kind.has_tape() {
             call.tape = vec![0, 0, self.dice.below(3) as u8, self.dice.bit()];
         }
-        self.call(call, n)
+        self.call(call, n).map(|_| ())
     }
 
     /// One gate with small numbers in every field, up to two children and two codes.

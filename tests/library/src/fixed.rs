@@ -1,9 +1,10 @@
 //! Every fixed case as a call of the static library, and the numbers that a host gets of some, written by hand.
 
 use crate::call::{Call, Kind};
+use crate::engines::{FOUND, SPENT, STUCK};
 use crate::harness::Harness;
 use crate::lend::Way;
-use peeriewick_tests::engine::{AND, DOWN, INPUT, NOT, OR, UP};
+use peeriewick_tests::engine::{AND, DOWN, GREEDY, INPUT, NOT, OR, UP};
 use peeriewick_tests::fixed;
 use peeriewick_tests::frame::{Case, PATTERN};
 use peeriewick_tests::maps::build;
@@ -82,6 +83,16 @@ fn two_codes() -> Vec<u8> {
     build(&gates, &[(3, 1), (4, 1)])
 }
 
+/// The smallest map that is Stuck: 0 input, 1 NOT(0), both coded 0.
+fn smallest_stuck() -> Vec<u8> {
+    build(&[(INPUT, vec![]), (NOT, vec![0])], &[(0, 0), (1, 0)])
+}
+
+/// The same, and 2 input, 3 NOT(2), code 3 = 1.
+fn half_stuck() -> Vec<u8> {
+    build(&[(INPUT, vec![]), (NOT, vec![0]), (INPUT, vec![]), (NOT, vec![2])], &[(0, 0), (1, 0), (3, 1)])
+}
+
 /// Three inputs and a NOT of each, coded 1.
 fn three_nots() -> Vec<u8> {
     let mut gates = vec![(INPUT, vec![]); 3];
@@ -109,12 +120,13 @@ impl Examples<'_> {
         Ok(())
     }
 
-    /// 8 gates, 3 inputs, 10 children, 1 code; with a place too many, with two, with none, and refused.
+    /// 8 gates, 3 inputs, 10 children, 1 code; with a place too many, with two, with none, a coded child, and refused.
     fn check(&mut self) -> Tried {
         let call = Call::new(Kind::Check, &self.adder);
         self.expect(call.clone(), 0, &[8, 3, 10, 1, BEFORE])?;
         self.expect(call.clone(), 0, &[8, 3])?;
         self.expect(call, 0, &[])?;
+        self.expect(Call::new(Kind::Check, &smallest_stuck()), 0, &[2, 1, 1, 2, BEFORE])?;
         self.expect(Call::new(Kind::Check, &self.adder[..67]), 3, &[BEFORE; 5])
     }
 
@@ -137,31 +149,40 @@ impl Examples<'_> {
         self.expect(call.with_body(&[1, 0, 1]), 9, &[BEFORE; 3])
     }
 
-    /// P1, a front of two, and refused for short memory.
+    /// P1, a front of two, a Stuck gate, and refused for short memory.
     fn survey(&mut self) -> Tried {
         let call = |map: &[u8], body: &[u8], room| with_memory(Call::new(Kind::Survey, map).with_body(body), room, 0);
         self.expect(call(&self.adder, &A, 10), 0, &[1, 3, BEFORE])?;
         self.expect(call(&two_codes(), &[1, 1, 0, 1, 1], 10), 0, &[2, 4, BEFORE])?;
+        self.expect(call(&smallest_stuck(), &[0, 0], 10), 0, &[1, 2, BEFORE])?;
         self.expect(call(&self.adder, &A, 7), 14, &[BEFORE; 3])
     }
 
-    /// P3's entry, P9's first, and an empty front.
+    /// P3's entry, P9's first, one that is Stuck, and an empty front.
     fn make_move(&mut self) -> Tried {
         let call = |map: &[u8], body: &[u8]| with_memory(Call::new(Kind::Move, map).with_body(body).with_tape(&DOWN_0), 10, 0);
         self.expect(call(&self.adder, &A), 0, &[3, 1, BEFORE])?;
         self.expect(call(&p9(), &[0, 0, 1]), 0, &[2, 2, BEFORE])?;
+        self.expect(call(&smallest_stuck(), &[0, 0]), 0, &[1, 0, BEFORE])?;
         self.expect(call(&self.adder, &B), 15, &[BEFORE; 3])
     }
 
-    /// P3, P5, P9, a front of three, and a tape of one byte.
+    /// P3, P5, P9, a front of three, Stuck at once and after a move, Spent before that, and a tape of one byte.
     fn run(&mut self) -> Tried {
         let call = |map: &[u8], body: &[u8], tape: &[u8]| {
             with_memory(Call::new(Kind::Run, map).with_body(body).with_tape(tape), 10, 10)
         };
-        self.expect(call(&self.adder, &A, &DOWN_0), 0, &[1, 1, 1, 0, BEFORE])?;
-        self.expect(call(&self.adder, &A, &UP_0), 0, &[0, 1, 1, 1, BEFORE])?;
-        self.expect(call(&p9(), &[0, 0, 1], &DOWN_0.repeat(2)), 0, &[0, 2, 3, 1, BEFORE])?;
-        self.expect(call(&three_nots(), &[1; 6], &[]), 0, &[0, 0, 0, 3, BEFORE])?;
+        self.expect(call(&self.adder, &A, &DOWN_0), 0, &[FOUND, 1, 1, 0, BEFORE])?;
+        self.expect(call(&self.adder, &A, &UP_0), 0, &[SPENT, 1, 1, 1, BEFORE])?;
+        self.expect(call(&p9(), &[0, 0, 1], &DOWN_0.repeat(2)), 0, &[SPENT, 2, 3, 1, BEFORE])?;
+        self.expect(call(&three_nots(), &[1; 6], &[]), 0, &[SPENT, 0, 0, 3, BEFORE])?;
+        let second = [1, 0, DOWN, 0];
+        for entry in [[0, 0, GREEDY, 0], DOWN_0, UP_0] {
+            self.expect(call(&smallest_stuck(), &[0, 0], &entry), 0, &[STUCK, 0, 0, 0, BEFORE])?;
+        }
+        self.expect(call(&half_stuck(), &[0, 0, 1, 1], &second.repeat(2)), 0, &[STUCK, 1, 1, 0, BEFORE])?;
+        self.expect(call(&half_stuck(), &[0, 0, 1, 1], &second), 0, &[SPENT, 1, 1, 1, BEFORE])?;
+        self.expect(call(&smallest_stuck(), &[0, 0], &[]), 0, &[SPENT, 0, 0, 1, BEFORE])?;
         self.expect(call(&self.adder, &A, &[0]), 12, &[BEFORE; 5])
     }
 }

@@ -65,6 +65,11 @@ impl Harness {
 
     /// Makes the call; each eighth one through the wrapper too. Gives what it told.
     pub fn compare(&mut self, call: &Call) -> Result<Told, String> {
+        self.compared(call).map(|(told, _)| told)
+    }
+
+    /// The same, and what it left.
+    pub fn compared(&mut self, call: &Call) -> Result<(Told, Outcome), String> {
         let made = catch_unwind(|| independent(call));
         let (told, expected) = made.map_err(|_| format!("the independent engine fails in the call\n{call}"))?;
         let outcome = self.proved(call);
@@ -75,7 +80,7 @@ impl Harness {
         if self.calls % 8 == 0 {
             self.compare_wrapper(call, &told, &expected)?;
         }
-        Ok(told)
+        Ok((told, outcome))
     }
 
     pub fn compare_wrapper(&mut self, call: &Call, told: &Told, expected: &Outcome) -> Result<(), String> {

@@ -2,13 +2,14 @@
 
 use crate::call::{Call, Kind};
 use crate::dress::{dressed, enough};
+use crate::engines::{FOUND, SPENT, STUCK};
 use crate::harness::Harness;
 use crate::lend::Pages;
 use peeriewick::raw;
 use peeriewick_tests::dice::Dice;
 use peeriewick_tests::engine::{AND, DOWN, GREEDY, INPUT, NOT, OR, UP};
 use peeriewick_tests::fixed::adder;
-use peeriewick_tests::maps::build;
+use peeriewick_tests::maps::{build, push16};
 use peeriewick_tests::random::random_entries;
 
 type Tried = Result<(), String>;
@@ -40,6 +41,28 @@ fn fullest() -> (Vec<u8>, Vec<u8>) {
     (build(&gates, &[(1023, 1)]), (0..1024).map(|number| (number % 3 == 0) as u8).collect())
 }
 
+/// The same with every gate coded, as row 1 gives it: the longest map, 24,516 bytes. Gate 0 is 1, gate 1 is 0, so gate 2 is 0, gate 3 is 1 and so on.
+fn longest() -> (Vec<u8>, Vec<u8>) {
+    let (map, _) = fullest();
+    let kept: Vec<u8> = (0..1024).map(|number| if number < 2 { 1 - number } else { number % 2 }).map(|bit| bit as u8).collect();
+    let mut contents = map[..10].to_vec();
+    push16(&mut contents, 1024);
+    let mut longest = [&contents, &map[12..map.len() - 4]].concat();
+    for (gate, value) in kept.iter().enumerate() {
+        push16(&mut longest, gate);
+        longest.extend([*value, 0]);
+    }
+    (longest, kept)
+}
+
+/// The torn map behind an input and its NOT, both coded 0: gate 1 is Stuck, and draw 1 takes one of the others.
+fn torn_and_stuck() -> (Vec<u8>, Vec<u8>) {
+    let mut gates = vec![(INPUT, vec![]), (NOT, vec![0])];
+    gates.extend(vec![(INPUT, vec![]); 8]);
+    gates.extend([(AND, (2..10).collect()), (OR, (2..10).collect())]);
+    (build(&gates, &[(0, 0), (1, 0), (10, 1), (11, 0)]), vec![0, 0, 0, 0, 0, 0, 0, 0, 0, 0, 1, 0])
+}
+
 /// AND and OR of eight all over 1,024 gates, and two ANDs of the same gates at the end that are to differ: no run ends before its tape.
 fn widest(dice: &mut Dice) -> (Vec<u8>, Vec<u8>) {
     let mut gates = vec![(INPUT, vec![]); 8];
@@ -66,9 +89,11 @@ pub fn long(harness: &mut Harness) -> Result<String, String> {
     all.most_flips()?;
     all.tape_lengths()?;
     all.last_entries()?;
+    all.stuck_at_the_end()?;
     all.draws()?;
     all.random_tapes()?;
     all.large_maps()?;
+    all.longest_map()?;
     all.large_runs()?;
     huge_lengths()
 }
@@ -93,7 +118,7 @@ impl Long<'_> {
     fn most_flips(&mut self) -> Tried {
         let (map, start) = torn();
         for entry in [[0, 0, DOWN, 0], [255, 255, DOWN, 255], [0, 0, UP, 7], [255, 255, GREEDY, 255]] {
-            self.expect(&map, &start, &entry.repeat(16_383), 0, &[0, 16_383, 131_064, 1])?;
+            self.expect(&map, &start, &entry.repeat(16_383), 0, &[SPENT, 16_383, 131_064, 1])?;
         }
         Ok(())
     }
@@ -104,8 +129,8 @@ impl Long<'_> {
             self.expect(&map, &start, &[0, 0, DOWN, 0].repeat(32_768)[..length], 12, &[])?;
         }
         for entries in [0, 1, 255, 256, 16_381, 16_382] {
-            let front = [0, entries, 8 * entries, 1];
-            self.expect(&map, &start, &[0, 0, DOWN, 0].repeat(entries), 0, &front)?;
+            let numbers = [SPENT, entries, 8 * entries, 1];
+            self.expect(&map, &start, &[0, 0, DOWN, 0].repeat(entries), 0, &numbers)?;
         }
         Ok(())
     }
@@ -119,13 +144,28 @@ impl Long<'_> {
         let adder = adder();
         self.expect(&adder, &[1, 1, 1, 1, 1, 0, 0, 1], &tape, 13, &[])?;
         tape[65_530] = 0;
-        self.expect(&adder, &[1, 1, 1, 1, 1, 0, 0, 1], &tape, 0, &[1, 0, 0, 0])?;
-        self.expect(&adder, &[0, 0, 1, 1, 0, 1, 0, 1], &tape, 0, &[1, 1, 1, 0])?;
+        self.expect(&adder, &[1, 1, 1, 1, 1, 0, 0, 1], &tape, 0, &[FOUND, 0, 0, 0])?;
+        self.expect(&adder, &[0, 0, 1, 1, 0, 1, 0, 1], &tape, 0, &[FOUND, 1, 1, 0])?;
         let p11 = build(&[(INPUT, vec![]), (INPUT, vec![]), (NOT, vec![0]), (AND, vec![0, 2]), (OR, vec![1, 3])], &[(4, 1)]);
         // Down turns gate 0 to and fro, for gate 2 and for gate 3; up on gate 3 then leaves the OR with both children at 0.
         let there = [&[0, 0, DOWN, 0].repeat(16_381)[..], &[0, 0, UP, 0, 0, 0, DOWN, 0]].concat();
-        self.expect(&p11, &[1, 0, 1, 1, 1], &there[..65_528], 0, &[0, 16_382, 16_382, 1])?;
-        self.expect(&p11, &[1, 0, 1, 1, 1], &there, 0, &[1, 16_383, 16_383, 0])
+        self.expect(&p11, &[1, 0, 1, 1, 1], &there[..65_528], 0, &[SPENT, 16_382, 16_382, 1])?;
+        self.expect(&p11, &[1, 0, 1, 1, 1], &there, 0, &[FOUND, 16_383, 16_383, 0])
+    }
+
+    /// Stuck at the last of 16,383 entries, which is undone; a kind above 2 behind the entry that is Stuck.
+    fn stuck_at_the_end(&mut self) -> Tried {
+        let (map, start) = torn_and_stuck();
+        let mut tape = [1, 0, DOWN, 0].repeat(16_383);
+        self.expect(&map, &start, &tape, 0, &[SPENT, 16_383, 131_064, 2])?;
+        for kind in [GREEDY, DOWN, UP] {
+            tape.splice(65_528.., [0, 0, kind, 255]);
+            self.expect(&map, &start, &tape, 0, &[STUCK, 16_382, 131_056, 0])?;
+        }
+        tape.splice(..4, [254, 255, UP, 0]);
+        self.expect(&map, &start, &tape, 0, &[STUCK, 0, 0, 0])?;
+        tape[65_530] = 3;
+        self.expect(&map, &start, &tape, 13, &[])
     }
 
     /// Draws at the ends of u16, over fronts of 256 down to 1.
@@ -133,8 +173,8 @@ impl Long<'_> {
         let (map, start) = nots();
         for draw in [0u16, 1, 254, 255, 256, 257, 32_767, 32_768, 65_279, 65_280, 65_534, 65_535] {
             let entry = [draw.to_le_bytes()[0], draw.to_le_bytes()[1], DOWN, 0];
-            self.expect(&map, &start, &entry.repeat(256), 0, &[1, 256, 256, 0])?;
-            self.expect(&map, &start, &entry.repeat(255), 0, &[0, 255, 255, 1])?;
+            self.expect(&map, &start, &entry.repeat(256), 0, &[FOUND, 256, 256, 0])?;
+            self.expect(&map, &start, &entry.repeat(255), 0, &[SPENT, 255, 255, 1])?;
             let call = Call::new(Kind::Move, &map).with_body(&start).with_tape(&entry);
             let call = dressed(&mut self.dice, call, (512, 0));
             let told = self.harness.compare(&call)?;
@@ -151,8 +191,10 @@ impl Long<'_> {
         let mut gates = vec![(INPUT, vec![]); 3];
         gates.extend([(AND, vec![0, 1, 2]), (NOT, vec![3]), (OR, vec![0, 4]), (OR, vec![0, 1, 2])]);
         let hopeless = build(&gates, &[(5, 0), (6, 1)]);
-        let stuck = build(&[(INPUT, vec![]), (NOT, vec![0]), (AND, vec![0, 1])], &[(2, 1)]);
-        for (map, start) in [(&map, &start[..]), (&hopeless, &[0, 0, 1, 1, 0, 0, 1]), (&stuck, &[0, 0, 1])] {
+        let p9 = build(&[(INPUT, vec![]), (NOT, vec![0]), (AND, vec![0, 1])], &[(2, 1)]);
+        // Gate 1 is turned for want of options, and gate 2 turns it back.
+        let for_want = build(&[(INPUT, vec![]), (NOT, vec![0]), (NOT, vec![1])], &[(0, 0), (2, 1)]);
+        for (map, start) in [(&map, &start[..]), (&hopeless, &[0, 0, 1, 1, 0, 0, 1]), (&p9, &[0, 0, 1]), (&for_want, &[0, 0, 1])] {
             for _ in 0..8 {
                 let tape = random_entries(&mut self.dice, 16_383);
                 self.run(map, start, &tape)?;
@@ -168,11 +210,27 @@ impl Long<'_> {
             let mut tape = random_entries(&mut self.dice, 1000);
             tape.iter_mut().skip(2).step_by(4).for_each(|byte| *byte = kind);
             let told = self.run(&map, &start, &tape)?;
-            if told.1[..2] != [0, 1000] {
+            if told.1[..2] != [SPENT, 1000] {
                 return Err(format!("both engines tell {told:?} where no state shows the codes"));
             }
         }
         Ok(())
+    }
+
+    /// The longest map through every call, as it is and with its last code turned: gate 1,023 is then Stuck, as all its children are coded.
+    fn longest_map(&mut self) -> Tried {
+        let (map, kept) = longest();
+        let (mut wrong, mut start) = (map.clone(), kept.clone());
+        wrong[24_514] ^= 1;
+        start[1023] ^= 1;
+        let told = self.harness.compare(&dressed(&mut self.dice, Call::new(Kind::Check, &map), (0, 0)))?;
+        if map.len() != 24_516 || told.numbers != [1024, 1, 8156, 1024] {
+            return Err(format!("both engines tell {told:?} of the longest map, which has {} bytes", map.len()));
+        }
+        self.expect(&map, &kept, &[0, 0, DOWN, 0], 0, &[FOUND, 0, 0, 0])?;
+        self.expect(&wrong, &start, &[0, 0, DOWN, 0], 0, &[STUCK, 0, 0, 0])?;
+        self.every_call(&map, &kept, 1)?;
+        self.every_call(&wrong, &start, 1)
     }
 
     /// The map with the most children, 1,024 coded inputs, and every call on them.
@@ -181,19 +239,23 @@ impl Long<'_> {
         let kept: Vec<u8> = (0..1024).map(|gate| gate % 2).map(|bit| bit as u8).collect();
         let (full, start) = fullest();
         let keeping = [&start[..1023], &[1]].concat();
-        for (map, body, inputs) in [(&coded, &kept, 1024), (&full, &keeping, 1)] {
-            for kind in crate::call::KINDS {
-                let mut call = Call { gate: 1023, ..Call::new(kind, map) };
-                if kind.has_body() {
-                    call.body = if kind == Kind::Evaluate { body[..inputs].to_vec() } else { body.clone() };
-                }
-                if kind.has_tape() {
-                    let count = if kind == Kind::Move { 1 } else { 60 };
-                    call.tape = random_entries(&mut self.dice, count);
-                }
-                let call = dressed(&mut self.dice, call, (1024, 1024));
-                self.harness.compare(&call)?;
+        self.every_call(&coded, &kept, 1024)?;
+        self.every_call(&full, &keeping, 1)
+    }
+
+    /// Every call on a map of 1,024 gates, the first of them inputs, with a configuration.
+    fn every_call(&mut self, map: &[u8], configuration: &[u8], inputs: usize) -> Tried {
+        for kind in crate::call::KINDS {
+            let mut call = Call { gate: 1023, ..Call::new(kind, map) };
+            if kind.has_body() {
+                call.body = if kind == Kind::Evaluate { configuration[..inputs].to_vec() } else { configuration.to_vec() };
             }
+            if kind.has_tape() {
+                let count = if kind == Kind::Move { 1 } else { 60 };
+                call.tape = random_entries(&mut self.dice, count);
+            }
+            let call = dressed(&mut self.dice, call, (1024, 1024));
+            self.harness.compare(&call)?;
         }
         Ok(())
     }

@@ -2,14 +2,16 @@
 
 use crate::call::{Call, Kind};
 use crate::dress::{any_room, dressed};
-use crate::engines::Told;
+use crate::engines::{Outcome, Told, FOUND, SPENT, STUCK};
 use crate::harness::Harness;
 use crate::shapes::{made, Made, SHAPES};
 use peeriewick_tests::dice::Dice;
+use peeriewick_tests::engine::UP;
 use peeriewick_tests::maps::{break_code, damage_body};
 use peeriewick_tests::random::{contradict, damage_tape, random_configuration, random_entries, random_entry};
 use peeriewick_tests::random::{random_start, random_tape};
 use std::collections::BTreeSet;
+use std::fmt;
 
 /// The kinds of calls, as often as they stand here.
 const MIX: [Kind; 20] = [
@@ -47,7 +49,7 @@ fn random_size(dice: &mut Dice) -> usize {
     }
 }
 
-/// The map of a run: one time in three no state shows its codes, so that the run goes on to the tape's end.
+/// The map of a run: one time in three no state shows its codes, so that the run goes on to the tape's end or is Stuck.
 fn made_for(dice: &mut Dice, kind: Kind, size: usize) -> Made {
     let shape = SHAPES[dice.below(SHAPES.len())];
     let mut one = made(dice, shape, size);
@@ -134,21 +136,42 @@ struct Met {
     sizes: BTreeSet<usize>,
     found: u64,
     spent: u64,
+    stuck: u64,
+    /// Moves that turned the drawn gate for want of options.
+    for_want: u64,
     long: u64,
     refused: u64,
 }
 
 impl Met {
-    fn note(&mut self, call: &Call, told: &Told) {
+    fn note(&mut self, call: &Call, told: &Told, left: &Outcome) {
         if call.map.len() >= 4 {
             self.sizes.insert(call.map[2] as usize + 256 * call.map[3] as usize);
         }
         self.refused += (told.number != 0) as u64;
         if call.kind == Kind::Run && told.number == 0 {
-            self.found += (told.numbers[0] == 1) as u64;
-            self.spent += (told.numbers[0] == 0) as u64;
+            self.found += (told.numbers[0] == FOUND) as u64;
+            self.spent += (told.numbers[0] == SPENT) as u64;
+            self.stuck += (told.numbers[0] == STUCK) as u64;
             self.long += (told.numbers[1] > 10_000) as u64;
         }
+        if call.kind == Kind::Move && told.number == 0 && call.tape[2] != UP {
+            let gate = told.numbers[0];
+            self.for_want += (left.body[gate] != call.body[gate]) as u64;
+        }
+    }
+
+    /// Whether `n` calls should have met more: each ending, moves for want of options and refusals one time in 400.
+    fn bare(&self, n: usize) -> bool {
+        let least = self.found.min(self.spent).min(self.stuck).min(self.for_want).min(self.refused);
+        self.sizes.len() != 1024 || least < n as u64 / 400 || self.long == 0
+    }
+}
+
+impl fmt::Display for Met {
+    fn fmt(&self, f: &mut fmt::Formatter<'_>) -> fmt::Result {
+        write!(f, "{} sizes of maps, {} found, {} spent, {} stuck, ", self.sizes.len(), self.found, self.spent, self.stuck)?;
+        write!(f, "{} of over 10,000 moves, {} moves for want of options, {} refused", self.long, self.for_want, self.refused)
     }
 }
 
@@ -157,13 +180,11 @@ pub fn random(harness: &mut Harness, seed: u64, n: usize) -> Result<String, Stri
     for number in 0..n {
         let size = size_for(&mut dice, number);
         let call = random_call(&mut dice, size);
-        let told = harness.compare(&call)?;
-        met.note(&call, &told);
+        let (told, left) = harness.compared(&call)?;
+        met.note(&call, &told, &left);
     }
-    let Met { sizes, found, spent, long, refused } = met;
-    let counts = format!("{} sizes of maps, {found} found, {spent} spent, {long} of over 10,000 moves, {refused} refused", sizes.len());
-    match n >= 16_384 && (sizes.len() != 1024 || found.min(spent).min(refused) < 1000 || long == 0) {
-        true => Err(format!("the random calls are bare: {counts}")),
-        false => Ok(counts),
+    match n >= 16_384 && met.bare(n) {
+        true => Err(format!("the random calls are bare: {met}")),
+        false => Ok(met.to_string()),
     }
 }

@@ -2,7 +2,7 @@
 
 use peeriewick_tests::dice::Dice;
 use peeriewick_tests::engine::{self, AND, INPUT, NOT, OR, XOR};
-use peeriewick_tests::maps::{random_gate, Draft};
+use peeriewick_tests::maps::{are_children, coded_children, random_gate, random_values, Draft};
 
 #[derive(Debug, Clone, Copy, PartialEq, Eq)]
 pub enum Shape {
@@ -148,23 +148,20 @@ fn gates_of(dice: &mut Dice, shape: Shape, size: usize) -> Vec<(u8, Vec<u16>)> {
     }
 }
 
-/// Codes on gates that are nobody's child: none, all, some, or the last such one. Mostly the values that the configuration shows.
+/// Codes on gates that are nobody's child, none, all, some, or the last such one, and on others. Mostly the values that the configuration shows.
 fn codes_for(dice: &mut Dice, gates: &[(u8, Vec<u16>)], obeying: &[u8]) -> Vec<(u16, u8)> {
-    let mut free = vec![true; gates.len()];
-    for (_, children) in gates {
-        for child in children {
-            free[*child as usize] = false;
-        }
-    }
-    let mut list: Vec<usize> = (0..gates.len()).filter(|gate| free[*gate]).collect();
+    let children = are_children(gates);
+    let mut list: Vec<usize> = (0..gates.len()).filter(|gate| !children[*gate]).collect();
     match dice.below(8) {
         0 => list.clear(),
         1..=3 => {}
         4 | 5 => list.retain(|_| dice.one_in(3)),
         _ => list.drain(..list.len() - 1).for_each(drop),
     }
-    let shown = !dice.one_in(4);
-    list.into_iter().map(|gate| (gate as u16, if shown { obeying[gate] } else { dice.bit() })).collect()
+    let inner = coded_children(dice, gates);
+    list.extend((0..gates.len()).filter(|gate| inner[*gate]));
+    list.sort();
+    random_values(dice, list, obeying)
 }
 
 pub fn made(dice: &mut Dice, shape: Shape, size: usize) -> Made {

@@ -22,10 +22,27 @@ pub(super) fn accepted(l: &mut List) {
     l.check("fan-in 2 for OR", &over(2, OR), "OK 3 2 2 0");
     l.check("fan-in 2 to 8 for AND and OR", &fans(), "OK 22 8 70 0");
     l.check("exactly 1,024 gates", &inputs(1024, &[]), "OK 1024 1024 0 0");
-    let coded: Vec<(u16, u8)> = (0..1024).map(|g| (g, (g % 2) as u8)).collect();
-    l.check("1,024 coded inputs", &inputs(1024, &coded), "OK 1024 1024 0 1024");
     l.check("chain of 300 gates", &chain(300), "OK 300 1 299 1");
-    l.check("1,024 gates, 8,128 children, 1,016 codes", &full(), "OK 1024 8 8128 1016");
+    l.check("the longest map: 1,024 gates, all coded, and 8,156 children", &full(), "OK 1024 1 8156 1024");
+    coded_children(l);
+}
+
+/// "a coded gate may now be a child" (F-1).
+fn coded_children(l: &mut List) {
+    l.check("coded gate in the middle", &map(&ADDER, &[(3, 1)]), "OK 8 3 10 1");
+    l.check("coded input with a parent", &map(&ADDER, &[(0, 1)]), "OK 8 3 10 1");
+    l.check("second code on the last child", &map(&ADDER, &[(5, 1), (7, 1)]), "OK 8 3 10 2");
+    l.check("the smallest map that is Stuck", &smallest_stuck(), "OK 2 1 1 2");
+    l.check(
+        "last of three codes on a child",
+        &map(&[(INPUT, &[]), (INPUT, &[]), (INPUT, &[]), (NOT, &[2])], &[(0, 1), (1, 1), (2, 1)]),
+        "OK 4 3 1 3",
+    );
+    let every: Vec<(u16, u8)> = (0..8).map(|gate| (gate, 0)).collect();
+    l.check("adder with every gate coded", &map(&ADDER, &every), "OK 8 3 10 8");
+    let late = chain(300);
+    let late = with16(&late, late.len() - 4, 298);
+    l.check("code 298 of a chain of 300 gates", &late, "OK 300 1 299 1");
 }
 
 /// Each number.
@@ -37,7 +54,6 @@ pub(super) fn refused(l: &mut List) {
     positions(l);
     children_refused(l);
     codes(l);
-    coded_children(l);
 }
 
 /// Numbers 1 and 2.
@@ -229,21 +245,6 @@ fn codes(l: &mut List) {
     l.check("gives 7, 301 codes on 300 inputs", &inputs(300, &more), "REFUSED 7");
 }
 
-/// Number 8.
-fn coded_children(l: &mut List) {
-    l.check("gives 8, coded gate in the middle", &map(&ADDER, &[(3, 1)]), "REFUSED 8");
-    l.check("gives 8, coded input with a parent", &map(&ADDER, &[(0, 1)]), "REFUSED 8");
-    l.check("gives 8, second code on the last child", &map(&ADDER, &[(5, 1), (7, 1)]), "REFUSED 8");
-    l.check(
-        "gives 8, last of three codes on a child",
-        &map(&[(INPUT, &[]), (INPUT, &[]), (INPUT, &[]), (NOT, &[2])], &[(0, 1), (1, 1), (2, 1)]),
-        "REFUSED 8",
-    );
-    let late = chain(300);
-    let late = with16(&late, late.len() - 4, 298);
-    l.check("gives 8, code 298 of a chain of 300 gates", &late, "REFUSED 8");
-}
-
 /// "Each test runs over all it concerns before the next."
 pub(super) fn precedence(l: &mut List) {
     let adder = adder();
@@ -261,18 +262,18 @@ pub(super) fn precedence(l: &mut List) {
     l.check("gives 5, before 6: child count wrong, child equal to its gate", &raw(&[(0, 0, 0), (1, 1, 0)], &[1, 0], &[]), "REFUSED 5");
     l.check("gives 5, before 7: position wrong at the last gate, value 2", &with(&with(&adder, 42, 7), 66, 2), "REFUSED 5");
     l.check("gives 6, before 7: equal children at the last gate, value 2", &with(&with(&adder, 62, 4), 66, 2), "REFUSED 6");
-    l.check("gives 6, before 8: child equal to its gate is coded", &map(&[(INPUT, &[]), (NOT, &[1])], &[(1, 1)]), "REFUSED 6");
-    l.check("gives 7, before 8: coded child first, value 2 in the last code", &map(&ADDER, &[(3, 1), (7, 2)]), "REFUSED 7");
-    l.check("gives 7, before 8: coded child twice", &map(&ADDER, &[(3, 1), (3, 1)]), "REFUSED 7");
-    l.check("gives 7, before 8: value 2 on a coded child", &map(&ADDER, &[(3, 2)]), "REFUSED 7");
+    l.check("gives 6, child equal to its gate is coded", &map(&[(INPUT, &[]), (NOT, &[1])], &[(1, 1)]), "REFUSED 6");
+    l.check("gives 7, coded child first, value 2 in the last code", &map(&ADDER, &[(3, 1), (7, 2)]), "REFUSED 7");
+    l.check("gives 7, coded child twice", &map(&ADDER, &[(3, 1), (3, 1)]), "REFUSED 7");
+    l.check("gives 7, value 2 on a coded child", &map(&ADDER, &[(3, 2)]), "REFUSED 7");
 
     let coded_child = map(&ADDER, &[(3, 1)]);
-    l.evaluate("gives 8, before 9: coded child and an empty row", &coded_child, &[], 8, &declined(8, 8));
+    l.evaluate("gives 9, coded child and an empty row", &coded_child, &[], 8, &declined(9, 8));
     l.evaluate("gives 9, before 10: four bytes, one of them 2", &adder, &[0, 2, 0, 0], 9, &declined(9, 9));
     l.evaluate("gives 9, before 14: two bytes and no memory", &adder, &[0, 0], 0, &declined(9, 0));
     l.evaluate("gives 10, before 14: byte 2 and memory of 7 bytes", &adder, &[0, 0, 2], 7, &declined(10, 7));
     l.evaluate("gives 7, before 14: value 2 and memory of 7 bytes", &with(&adder, 66, 2), &[0, 0, 0], 7, &declined(7, 7));
-    l.mark("gives 8, before 9: coded child and an empty configuration", &coded_child, &[], "REFUSED 8");
+    l.mark("gives 9, coded child and an empty configuration", &coded_child, &[], "REFUSED 9");
     l.mark("gives 9, before 10: nine bytes, one of them 2", &adder, &digits("200000000"), "REFUSED 9");
     l.mark("gives 9, before 10: seven bytes, all of them 255", &adder, &[255; 7], "REFUSED 9");
 }
@@ -311,5 +312,9 @@ pub(super) fn children(l: &mut List) {
     l.children("of a map refused with 5", &with(&adder, 42, 7), 3, "CHILDREN");
     l.children("of a map refused with 6", &with(&adder, 62, 7), 3, "CHILDREN");
     l.children("of a map refused with 7", &with(&adder, 66, 2), 3, "CHILDREN");
-    l.children("of a map refused with 8", &map(&ADDER, &[(5, 1)]), 3, "CHILDREN");
+
+    // A coded child takes nothing away.
+    l.children("of a gate below a coded child", &map(&ADDER, &[(5, 1)]), 3, "CHILDREN 0 1");
+    l.children("of a coded child", &map(&ADDER, &[(5, 1)]), 5, "CHILDREN 2 3");
+    l.children("that are coded", &smallest_stuck(), 1, "CHILDREN 0");
 }

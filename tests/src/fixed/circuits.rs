@@ -177,15 +177,27 @@ pub(super) fn six() -> Vec<u8> {
     )
 }
 
-/// The most of everything: 8 inputs and 1,016 coded ANDs of all eight.
+/// The most of everything, 24,516 bytes: an input, a NOT, and ANDs and ORs by
+/// turn of as many gates next below as there are, eight at most; all coded.
 pub(super) fn full() -> Vec<u8> {
-    let mut gates = vec![(INPUT, vec![]); 8];
-    let mut codes = Vec::new();
-    for g in 8..1024 {
-        gates.push((AND, EIGHT.to_vec()));
-        codes.push((g, 1));
+    let mut gates = vec![(INPUT, vec![]), (NOT, vec![0])];
+    for g in 2..1024u16 {
+        gates.push(([AND, OR][g as usize % 2], (g.saturating_sub(8)..g).collect()));
     }
-    build(&gates, &codes)
+    let codes: Vec<(u16, u8)> = (0..1024).map(|g| (g, (g % 2) as u8)).collect();
+    let map = build(&gates, &codes);
+    assert_eq!(map.len(), 24_516);
+    map
+}
+
+/// The smallest map that is Stuck: 0 input, 1 NOT(0), both coded 0.
+pub(super) fn smallest_stuck() -> Vec<u8> {
+    map(&[(INPUT, &[]), (NOT, &[0])], &[(0, 0), (1, 0)])
+}
+
+/// The same, and 2 input, 3 NOT(2), code 3 = 1.
+pub(super) fn half_stuck() -> Vec<u8> {
+    map(&[(INPUT, &[]), (NOT, &[0]), (INPUT, &[]), (NOT, &[2])], &[(0, 0), (1, 0), (3, 1)])
 }
 
 /// Eight inputs, 8 AND(0..7) coded 1 and 9 OR(0..7) coded 0.

@@ -30,6 +30,8 @@ fn rows(l: &mut List) {
     l.evaluate("adder row 110, surplus of 92", &adder, &digits("110"), 100, &done("11001001", 92));
     l.evaluate("adder row 000, the largest room", &adder, &digits("000"), 2048, &done("00000000", 2040));
     l.evaluate("adder without codes", &map(&ADDER, &[]), &digits("011"), 8, &done("01110101", 0));
+    l.evaluate("coded child", &map(&ADDER, &[(5, 1)]), &digits("101"), 8, &done("10110101", 0));
+    l.evaluate("coded child and coded input, not shown", &map(&ADDER, &[(0, 1), (5, 1)]), &digits("010"), 8, &done("01010010", 0));
     l.evaluate("adder with code 7 = 0 not shown", &map(&ADDER, &[(7, 0)]), &digits("011"), 8, &done("01110101", 0));
 
     // Inputs that stand after other gates.
@@ -103,7 +105,6 @@ fn refused(l: &mut List) {
     l.evaluate("gives 5, position wrong at the last gate", &with(&adder, 42, 7), &row, 8, &declined(5, 8));
     l.evaluate("gives 6, child equal to its gate", &with(&adder, 62, 7), &row, 8, &declined(6, 8));
     l.evaluate("gives 7, zero byte 1", &with(&adder, 67, 1), &row, 8, &declined(7, 8));
-    l.evaluate("gives 8, coded child", &map(&ADDER, &[(5, 1)]), &row, 8, &declined(8, 8));
     l.evaluate("gives 9, empty row", &adder, &[], 8, &declined(9, 8));
     l.evaluate("gives 9, two bytes", &adder, &digits("10"), 8, &declined(9, 8));
     l.evaluate("gives 9, four bytes", &adder, &digits("1010"), 8, &declined(9, 8));

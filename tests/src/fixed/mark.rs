@@ -30,6 +30,10 @@ fn full_adder(l: &mut List) {
     l.mark("adder with two codes, both kept", &map(&ADDER, &[(6, 0), (7, 1)]), &digits("11001001"), "YES");
     l.mark("adder with two codes, the first broken", &map(&ADDER, &[(6, 0), (7, 1)]), &digits("11101011"), "NO");
     l.mark("adder with two codes, the second broken", &map(&ADDER, &[(6, 0), (7, 1)]), &digits("00000000"), "NO");
+    l.mark("adder with a coded child, shown", &map(&ADDER, &[(4, 1)]), &digits("11001001"), "YES");
+    l.mark("adder with a coded child, not shown", &map(&ADDER, &[(4, 1)]), &digits("10110101"), "NO");
+    l.mark("adder with a coded child, shown by a gate that is wrong", &map(&ADDER, &[(4, 1)]), &digits("10111101"), "NO");
+    l.mark("adder with a coded input below it, not shown", &map(&ADDER, &[(0, 0), (4, 1)]), &digits("11001001"), "NO");
     for (gate, configuration) in [
         "01001001", "10001001", "11101001", "11011001", "11000001", "11001101", "11001011", "11001000",
     ]
@@ -90,7 +94,6 @@ fn refused(l: &mut List) {
     l.mark("gives 5, position wrong at the last gate", &with(&adder, 42, 7), &key, "REFUSED 5");
     l.mark("gives 6, child equal to its gate", &with(&adder, 62, 7), &key, "REFUSED 6");
     l.mark("gives 7, value 2", &with(&adder, 66, 2), &key, "REFUSED 7");
-    l.mark("gives 8, coded child", &map(&ADDER, &[(4, 1)]), &key, "REFUSED 8");
     l.mark("gives 9, empty configuration", &adder, &[], "REFUSED 9");
     l.mark("gives 9, seven bytes", &adder, &digits("1100100"), "REFUSED 9");
     l.mark("gives 9, nine bytes", &adder, &digits("110010010"), "REFUSED 9");

@@ -25,7 +25,6 @@ fn map_or_configuration(l: &mut List) {
     l.unmoved("gives 5, position wrong at the last gate", 5, &with(&adder, 42, 7), &a, &go, 8);
     l.unmoved("gives 6, child equal to its gate", 6, &with(&adder, 62, 7), &a, &go, 8);
     l.unmoved("gives 7, zero byte 1", 7, &with(&adder, 67, 1), &a, &go, 8);
-    l.unmoved("gives 8, coded child", 8, &map(&ADDER, &[(5, 1)]), &a, &go, 8);
     l.unmoved("gives 9, empty configuration", 9, &adder, &[], &go, 8);
     l.unmoved("gives 9, empty configuration and no memory", 9, &adder, &[], &go, 0);
     l.unmoved("gives 9, seven bytes", 9, &adder, &digits("0011010"), &go, 8);
@@ -96,9 +95,10 @@ fn map_or_configuration_first(l: &mut List) {
     l.unmoved("gives 4, before 5: kind 5 at the last gate, position wrong at gate 0", 4, &with(&with(&adder, 40, 5), 14, 1), &a, &go, 8);
     l.unmoved("gives 5, before 6: position wrong at the last gate, equal children at gate 3", 5, &with(&with(&adder, 42, 7), 46, 0), &a, &go, 8);
     l.unmoved("gives 6, before 7: equal children at the last gate, value 2", 6, &with(&with(&adder, 62, 4), 66, 2), &a, &go, 8);
-    l.unmoved("gives 7, before 8: coded child first, value 2 in the last code", 7, &map(&ADDER, &[(3, 1), (7, 2)]), &a, &go, 8);
-    l.unmoved("gives 8, before 9: coded child and an empty configuration", 8, &coded_child, &[], &go, 8);
-    l.unmoved("gives 8, before 12: coded child and no entry", 8, &coded_child, &a, &[], 8);
+    l.unmoved("gives 7, coded child first, value 2 in the last code", 7, &map(&ADDER, &[(3, 1), (7, 2)]), &a, &go, 8);
+    l.unmoved("gives 9, coded child and an empty configuration", 9, &coded_child, &[], &go, 8);
+    l.unmoved("gives 11, coded child that breaks its code", 11, &coded_child, &digits("00100101"), &go, 8);
+    l.unmoved("gives 12, coded child and no entry", 12, &coded_child, &a, &[], 8);
     l.unmoved("gives 9, before 10: nine bytes, one of them 2", 9, &adder, &digits("001101012"), &go, 9);
     l.unmoved("gives 9, before 12: seven bytes and no entry", 9, &adder, &digits("0011010"), &[], 8);
     l.unmoved("gives 9, before 13: seven bytes and kind 3", 9, &adder, &digits("0011010"), &[0, 0, 3, 0], 8);

@@ -25,6 +25,20 @@ pub fn longest_with(last: [[u8; 4]; 3]) -> Vec<u8> {
     input
 }
 
+/// An input of 65,536 bytes: the torn map behind the smallest one that is Stuck.
+/// Draw 1 takes the AND and the OR of eight by turn, 16,351 times, and the last
+/// entry draws gate 1, which is Stuck.
+pub fn longest_stuck() -> Vec<u8> {
+    let mut gates = vec![(INPUT, vec![]), (NOT, vec![0])];
+    gates.extend(vec![(INPUT, vec![]); 8]);
+    gates.extend([(AND, (2..10).collect()), (OR, (2..10).collect())]);
+    let map = build(&gates, &[(0, 0), (1, 0), (10, 1), (11, 0)]);
+    let tape = [drawn(1, down(0)).repeat(16_351), greedy(0).to_vec()].concat();
+    let input = Case::program(&map, &digits("00 00000000 10"), (&tape, 1)).whole_input();
+    assert_eq!(input.len(), 65_536);
+    input
+}
+
 /// "the number is 0 if the input passes 65,536 bytes or isn't exactly the 6 bytes
 /// and the three lengths together."
 pub(super) fn inputs_refused(l: &mut List) {
@@ -157,7 +171,6 @@ fn map_or_configuration(l: &mut List) {
     l.not_printed("gives 5, position wrong at the last gate", 5, &with(&adder, 42, 7), &a, tape);
     l.not_printed("gives 6, child equal to its gate", 6, &with(&adder, 62, 7), &a, tape);
     l.not_printed("gives 7, zero byte 1", 7, &with(&adder, 67, 1), &a, tape);
-    l.not_printed("gives 8, coded child", 8, &map(&ADDER, &[(5, 1)]), &a, tape);
     l.not_printed("gives 9, empty configuration", 9, &adder, &[], tape);
     l.not_printed("gives 9, seven bytes", 9, &adder, &a[..7], tape);
     l.not_printed("gives 9, nine bytes", 9, &adder, &digits("001101011"), tape);
@@ -218,7 +231,8 @@ pub(super) fn precedence(l: &mut List) {
         l.input(&format!("{name}, P3's bodies"), &bytes, &format!("REFUSED {number}"));
     }
     l.not_printed("gives 2, before 9 to 13: 0 gates and all else wrong", 2, &header([12, 0, 12, 0, 12, 0]), &[2], odd);
-    l.not_printed("gives 8, before 9: coded child and an empty configuration", 8, &map(&ADDER, &[(3, 1)]), &[], odd);
+    l.not_printed("gives 9, coded child and an empty configuration", 9, &map(&ADDER, &[(3, 1)]), &[], odd);
+    l.not_printed("gives 11, coded child that breaks its code", 11, &map(&ADDER, &[(3, 1)]), &digits("00100101"), odd);
     l.not_printed("gives 9, before 10: nine bytes, one of them 2", 9, &adder, &digits("001101012"), bad);
     l.not_printed("gives 10, before 11: byte 2, code broken", 10, &adder, &digits("20110100"), bad);
     l.not_printed("gives 10, before 12: byte 2 and a tape of 5 bytes", 10, &adder, &digits("00210101"), odd);

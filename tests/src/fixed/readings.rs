@@ -47,7 +47,7 @@ fn refused_maps(l: &mut List) {
     l.check("gives 6, before 7: equal children at gate 3, value 2", &with(&with(&adder, 46, 0), 66, 2), "REFUSED 6");
     l.check("gives 7, the codes of a NOT and an AND in turned order", &with(&with(&codes, 42, 4), 46, 3), "REFUSED 7");
     l.check("gives 7, the code of a NOT twice", &with(&codes, 46, 3), "REFUSED 7");
-    l.check("gives 7, before 8: coded child, zero byte 1", &with(&with(&adder, 64, 3), 67, 1), "REFUSED 7");
+    l.check("gives 7, coded child, zero byte 1", &with(&with(&adder, 64, 3), 67, 1), "REFUSED 7");
 }
 
 fn children(l: &mut List) {
@@ -65,7 +65,7 @@ fn rows_and_marks(l: &mut List) {
     let adder = adder();
     l.evaluate("an input behind a NOT, row 01", &gap(), &digits("01"), 4, &done("0111", 0));
     l.evaluate("adder row 101, surplus of 2", &adder, &digits("101"), 10, &done("10110101", 2));
-    l.evaluate("gives 8, before 9: coded child and an empty row, surplus of 2", &map(&ADDER, &[(3, 1)]), &[], 10, &declined(8, 10));
+    l.evaluate("gives 9, coded child and an empty row, surplus of 2", &map(&ADDER, &[(3, 1)]), &[], 10, &declined(9, 10));
     l.evaluate("gives 9, four bytes, surplus of 2", &adder, &digits("1101"), 10, &declined(9, 10));
     l.evaluate("gives 10, before 14: second byte 2 and memory of 7 bytes", &adder, &[1, 2, 1], 7, &declined(10, 7));
     l.mark("adder, row 001 obeys the gates and not the code", &adder, &digits("00100010"), "NO");
@@ -81,7 +81,7 @@ fn surveys(l: &mut List) {
     l.surveyed("NOT of an AND at 0 with one child at 0", &nand(), "0101", 0, 0, "1011");
     l.surveyed("NOT of an AND at 0 with both children at 0", &nand(), "0001", 0, 0, "1111");
     l.surveyed("codes on a NOT and an AND, a front gate below another", &two_codes(), "11011", 2, 4, "44717");
-    l.survey("gives 8, before 9: coded child and no bytes, surplus of 2", &map(&ADDER, &[(3, 1)]), &[], 10, &declined(8, 10));
+    l.survey("gives 9, coded child and no bytes, surplus of 2", &map(&ADDER, &[(3, 1)]), &[], 10, &declined(9, 10));
     l.survey("gives 9, before 10: nine bytes, the first 2, surplus of 1", &adder, &digits("200110101"), 10, &declined(9, 10));
     l.survey("gives 10, before 11: first byte 2, code broken, surplus of 2", &adder, &digits("20110100"), 10, &declined(10, 10));
 }
@@ -121,7 +121,7 @@ fn choices(l: &mut List) {
 fn refused_moves(l: &mut List) {
     let adder = adder();
     let (a, b, code_broken) = (digits(A), digits(B), digits("00110100"));
-    l.unmoved("gives 8, before 9: coded child and no bytes, surplus of 2", 8, &map(&ADDER, &[(3, 1)]), &[], &down(0), 10);
+    l.unmoved("gives 9, coded child and no bytes, surplus of 2", 9, &map(&ADDER, &[(3, 1)]), &[], &down(0), 10);
     l.unmoved("gives 11, before 12: code broken and no entry, surplus of 2", 11, &adder, &code_broken, &[], 10);
     l.unmoved("gives 12, before 13: five bytes, kind 3, surplus of 2", 12, &adder, &a, &[0, 0, 3, 0, 0], 10);
     l.unmoved("gives 12, the same entry twice, surplus of 2", 12, &adder, &a, &[down(0), down(0)].concat(), 10);
@@ -139,7 +139,7 @@ fn runs(l: &mut List) {
     l.found("A, down 0, two ups unread", &adder, A, (&[down(0), up(0), up(0)], 1), (1, 1), first);
     l.found("A, down 1", &adder, A, (&[down(1)], 1), (1, 1), second);
     l.spent("three NOTs, empty tape", &three_nots(), "111111", (&[], 1), (0, 0, 3), ["111111", "444777"]);
-    l.not_run("gives 8, before 9: coded child, no bytes and an empty tape", 8, &map(&ADDER, &[(3, 1)]), &[], (&[], 0), (8, 8));
+    l.not_run("gives 9, coded child, no bytes and an empty tape", 9, &map(&ADDER, &[(3, 1)]), &[], (&[], 0), (8, 8));
     l.not_run("gives 11, before 12: code broken and a tape of 1 byte", 11, &adder, &code_broken, (&[0], 1), (8, 8));
     l.not_run("gives 13, before 14: kind 3 behind an entry, work memory of 3 bytes", 13, &adder, &a, (&[down(0), [0, 0, 3, 0]].concat(), 1), (3, 8));
     l.input("gives 0, 6 bytes that say one byte of map", &lengths_of([1, 0, 0]), "REFUSED 0");

@@ -310,7 +310,6 @@ pub(super) fn refused(l: &mut List) {
     l.survey("gives 5, position wrong at the last gate", &with(&adder, 42, 7), &a, 8, &declined(5, 8));
     l.survey("gives 6, child equal to its gate", &with(&adder, 62, 7), &a, 8, &declined(6, 8));
     l.survey("gives 7, zero byte 1", &with(&adder, 67, 1), &a, 8, &declined(7, 8));
-    l.survey("gives 8, coded child", &map(&ADDER, &[(5, 1)]), &a, 8, &declined(8, 8));
     l.survey("gives 9, empty configuration", &adder, &[], 8, &declined(9, 8));
     l.survey("gives 9, seven bytes", &adder, &digits("0011010"), 8, &declined(9, 8));
     l.survey("gives 9, nine bytes", &adder, &digits("001101011"), 9, &declined(9, 9));
@@ -350,13 +349,13 @@ pub(super) fn precedence(l: &mut List) {
     l.survey("gives 4, before 5: kind 5 at the last gate, position wrong at gate 0", &with(&with(&adder, 40, 5), 14, 1), &a, 8, &declined(4, 8));
     l.survey("gives 5, before 6: position wrong at the last gate, equal children at gate 3", &with(&with(&adder, 42, 7), 46, 0), &a, 8, &declined(5, 8));
     l.survey("gives 6, before 7: equal children at the last gate, value 2", &with(&with(&adder, 62, 4), 66, 2), &a, 8, &declined(6, 8));
-    l.survey("gives 7, before 8: coded child first, value 2 in the last code", &map(&ADDER, &[(3, 1), (7, 2)]), &a, 8, &declined(7, 8));
+    l.survey("gives 7, coded child first, value 2 in the last code", &map(&ADDER, &[(3, 1), (7, 2)]), &a, 8, &declined(7, 8));
     l.survey("gives 7, before 9: value 2 and an empty configuration", &with(&adder, 66, 2), &[], 8, &declined(7, 8));
     l.survey("gives 7, before 14: value 2 and memory of 7 bytes", &with(&adder, 66, 2), &a, 7, &declined(7, 7));
-    l.survey("gives 8, before 9: coded child and an empty configuration", &coded_child, &[], 8, &declined(8, 8));
-    l.survey("gives 8, before 10: coded child at 2", &coded_child, &digits("00120101"), 8, &declined(8, 8));
-    l.survey("gives 8, before 11: coded child that breaks its code", &coded_child, &digits("00100101"), 8, &declined(8, 8));
-    l.survey("gives 8, before 14: coded child and no memory", &coded_child, &a, 0, &declined(8, 0));
+    l.survey("gives 9, coded child and an empty configuration", &coded_child, &[], 8, &declined(9, 8));
+    l.survey("gives 10, coded child at 2", &coded_child, &digits("00120101"), 8, &declined(10, 8));
+    l.survey("gives 11, coded child that breaks its code", &coded_child, &digits("00100101"), 8, &declined(11, 8));
+    l.survey("gives 14, coded child and no memory", &coded_child, &a, 0, &declined(14, 0));
     l.survey("gives 9, before 10: nine bytes, one of them 2", &adder, &digits("001101012"), 9, &declined(9, 9));
     l.survey("gives 9, before 10: seven bytes, all of them 255", &adder, &[255; 7], 8, &declined(9, 8));
     l.survey("gives 9, before 11: nine bytes, code broken", &adder, &digits("001101000"), 9, &declined(9, 9));
