@@ -5,12 +5,12 @@ use Rattle.folds.specs.Folds.{_and_, _or_, allBelow, descend}
 use Rattle.circuit.specs.Circuit.{justified}
 use Rattle.circuit.specs.Evaluate.{inputsBefore, values, evaluate, mark, differ}
 use Rattle.circuit.specs.Survey.{spread, reasons, cone, inFront, front, interest, survey, frontSize, interestSize}
-use Rattle.circuit.specs.Run.{drawn, downOptions, optionAt, greedyOptions, chosen, entryTurns, run, answer}
-use Rattle.circuit.specs.Bench.{adder, circuitP9, circuitP11, nand, gap, nots, Examples}
+use Rattle.circuit.specs.Run.{drawn, downOptions, optionsLeft, greedyOptions, chosen, entryChosen, entryTurns, run, answer}
+use Rattle.circuit.specs.Bench.{adder, circuitP9, circuitP11, nand, gap, nots, clash, choice, inner, all, Examples}
 
 -- every definition that the examples compute with, under one name
 opened : ℕ
-unfolding _and_ _or_ allBelow descend justified inputsBefore values evaluate mark differ spread reasons cone inFront front interest survey frontSize interestSize drawn downOptions optionAt greedyOptions chosen entryTurns run answer adder circuitP9 circuitP11 nand gap nots
+unfolding _and_ _or_ allBelow descend justified inputsBefore values evaluate mark differ spread reasons cone inFront front interest survey frontSize interestSize drawn downOptions optionsLeft greedyOptions chosen entryChosen entryTurns run answer adder circuitP9 circuitP11 nand gap nots clash choice inner all
 opened = 0
 
 pub examples : Examples
@@ -24,6 +24,7 @@ examples = record {
   not-below = refl;
   and-wrong-alone = refl;
   xor-options = refl;
+  turns-all-wrong = refl;
   drawn-turns = refl;
   up-on-coded = refl;
   up-on-uncoded = refl;
@@ -32,6 +33,12 @@ examples = record {
   found-without-entry = refl;
   found-at-once = refl;
   two-moves = refl;
+  first-left = refl;
+  modulo-left = refl;
+  greedy-left = refl;
+  out-whole = refl;
+  stuck-at-once = refl;
+  spent-before = refl;
   answer-is-evaluated = refl;
   answer-outside-cone = refl;
 }

@@ -16,20 +16,21 @@ use Rattle.circuit.specs.Circuit.{Circuit, isSome, coded, WellFormed, on
 use Rattle.circuit.specs.Evaluate.{Satisfying, KeepsCodes, differ}
 use Rattle.circuit.specs.Survey.{inFront, front}
 use Rattle.circuit.specs.declared.Entry.{Entry}
-use Rattle.circuit.specs.Run.{drawn, downOptions, optionAt, turn, chosen, entryTurns, after, run, answer}
-use Rattle.circuit.specs.Promise.{NotGreedy, optionByte, FinishingTape, Demand3OnCircuits}
+use Rattle.circuit.specs.Run.{drawn, downOptions, optionsLeft, turn, Chosen, option, itself, chosen, turnedBy, isStuck, entryChosen, entryTurns, after, told, run, answer}
+use Rattle.circuit.specs.Promise.{NotGreedy, optionByte, StuckAt, config, FinishingTape, Demand3OnCircuits, SatisfiableNeverStuck}
 use Rattle.circuit.proofs.Values.{agree, unequal}
-use Rattle.circuit.proofs.Lists.{place, pick-at, select-none, in-upTo}
+use Rattle.circuit.proofs.Lists.{place, pick-at, select-none, in-upTo, in-length, some-isEmpty, isEmpty-none}
 use Rattle.circuit.proofs.Gate.{laws}
 use Rattle.circuit.proofs.Evaluate.{justify}
 use Rattle.circuit.proofs.Cone.{unjustified-seen, in-front}
-use Rattle.circuit.proofs.Turns.{Turnable, keeps-turn, differ-most, differ-zero, differ-turn, option-sound, option-few, option-turnable, alone-turnable}
-use Rattle.circuit.proofs.Moves.{drawn-in}
-use Rattle.circuit.proofs.Trace.{run-found, run-step, demand2-on-circuits}
+use Rattle.circuit.proofs.Turns.{Turnable, keeps-turn, differ-most, differ-zero, differ-turn, left-in, left-few, option-sound, option-few, option-kid, left-turnable, alone-turnable}
+use Rattle.circuit.proofs.Moves.{one-of-some, none-is, drawn-in, no-front}
+use Rattle.circuit.proofs.Survey.{survey-is}
+use Rattle.circuit.proofs.Trace.{run-found, run-step, past-end, stuck-ends, demand2-on-circuits}
 
 -- ---- a step towards a satisfying assignment
 
-has-code : (o : Option Bool) → isSome o ≡ true → (v : Bool) × (o ≡ some v)
+pub has-code : (o : Option Bool) → isSome o ≡ true → (v : Bool) × (o ≡ some v)
 has-code none e = absurd (true≢false (sym e))
 has-code (some v) e = (v, refl)
 
@@ -38,6 +39,7 @@ record Step (c : Circuit) (s a : List ℕ) (d : ℕ) : Type 0 where
   choice : Choice
   plain : NotGreedy choice × (optionByte choice < 256)
   gone : List ℕ
+  goes : isStuck (entryChosen c s (record { draw = d; choice = choice })) ≡ false
   turns : entryTurns c s (record { draw = d; choice = choice }) ≡ gone
   some-gone : 1 ≤ length gone
   turnable : Turnable c gone
@@ -51,21 +53,29 @@ module _ (c : Circuit) (ok : WellFormed c) (a : List ℕ) (sat : Satisfying c a)
     | inr e ↦ e
   ]
 
-  -- a front gate whose value agrees with a has an option that turns only gates at which they differ
+  -- a front gate whose value agrees with a has an option that turns only gates at which they differ,
   near-option : (g : ℕ) → In g (front c s) → on a g ≡ on s g → (o : List ℕ) × In o (downOptions c s g) × ((x : ℕ) → In x o → on a x ≡ not (on s x))
   unfolding downOptions
   near-option g m q =
       let e = unjustified-seen c ok s g (in-front c ok s g m .0) (in-front c ok s g m .2) in
       laws (c .kind g) (on s g) (e .gate) .toward (on s) (on a) (c .kids g) e (sat .obeys g (in-front c ok s g m .0) (e .gate) ∙ q)
 
+  -- and that is left, as these gates are uncoded
+  near-left : (g : ℕ) → In g (front c s) → on a g ≡ on s g → (o : List ℕ) × In o (optionsLeft c s g) × ((x : ℕ) → In x o → on a x ≡ not (on s x))
+  near-left g m q =
+      let (h, _, u) = in-front c ok s g m in
+      let (o, n, near) = near-option g m q in
+      (o, left-in c s g o .1 (n, λ x i. free-where x (omega (arith, ok .below g h x (option-kid c ok s g h u o n x i))) (near x i)), near)
+
   up-step : (d : ℕ) → In (drawn c s d) (front c s) → on a (drawn c s d) ≡ not (on s (drawn c s d)) → Step c s a d
-  unfolding entryTurns chosen optionAt
+  unfolding entryTurns entryChosen chosen
   up-step d m q =
       let uncoded = free-where (drawn c s d) (in-front c ok s (drawn c s d) m .0) q in
       record {
         choice = Up 0;
         plain = (tt, omega arith);
         gone = drawn c s d ∷ [];
+        goes = rw uncoded;
         turns = rw uncoded;
         some-gone = omega arith;
         turnable = alone-turnable c ok s (drawn c s d) (in-front c ok s (drawn c s d) m .0) uncoded;
@@ -73,18 +83,21 @@ module _ (c : Circuit) (ok : WellFormed c) (a : List ℕ) (sat : Satisfying c a)
       }
 
   down-step : (d : ℕ) → In (drawn c s d) (front c s) → on a (drawn c s d) ≡ on s (drawn c s d) → Step c s a d
-  unfolding entryTurns chosen optionAt
+  unfolding entryTurns entryChosen chosen
   down-step d m q =
       let (h, _, u) = in-front c ok s (drawn c s d) m in
-      let (o, n, near) = near-option (drawn c s d) m q in
-      let (i, l, e) = place [] o (downOptions c s (drawn c s d)) n in
+      let (o, n, near) = near-left (drawn c s d) m q in
+      let (i, l, e) = place [] o (optionsLeft c s (drawn c s d)) n in
+      let is : chosen c s (drawn c s d) (Down i) ≡ option o =
+      one-of-some c (drawn c s d) i (optionsLeft c s (drawn c s d)) (some-isEmpty (optionsLeft c s (drawn c s d)) (in-length o (optionsLeft c s (drawn c s d)) n)) ∙ ap option (pick-at (optionsLeft c s (drawn c s d)) i [] l ∙ e) in
       record {
         choice = Down i;
-        plain = (tt, omega (arith, option-few c ok s (drawn c s d) h u));
+        plain = (tt, omega (arith, option-few c ok s (drawn c s d) h u, left-few c s (drawn c s d)));
         gone = o;
-        turns = pick-at (downOptions c s (drawn c s d)) i [] l ∙ e;
-        some-gone = option-sound c ok s (drawn c s d) h u o n .1;
-        turnable = option-turnable c ok s (drawn c s d) h u o n;
+        goes = ap isStuck is;
+        turns = ap (turnedBy (drawn c s d)) is;
+        some-gone = option-sound c ok s (drawn c s d) h u o (left-in c s (drawn c s d) o .0 n .0) .1;
+        turnable = left-turnable c ok s (drawn c s d) h u o n;
         near = near;
       }
 
@@ -135,7 +148,7 @@ onward c s a d ds m n e t q r = record {
     x = record { draw = d; choice = t .choice }
 
     same-run : run c s (x ∷ r .tape) ≡ after (length (t .gone)) (run c (turn (t .gone) s) (r .tape))
-    same-run = run-step c s x (r .tape) e ∙ rw (t .turns)
+    same-run = run-step c s x (r .tape) e (t .goes) ∙ rw (t .turns)
 
 module _ (c : Circuit) (ok : WellFormed c) (a : List ℕ) (sat : Satisfying c a) where
   -- a satisfying assignment's own front is empty
@@ -179,4 +192,35 @@ demand3-on-circuits c ok s k = record {
   some-tape = λ r. (let z = zeros c ok s k (r .0) (r .1) in
       (z .tape, λ e m. (zeros-fit c ok s k (r .0) (r .1) e m, z .plain e m .1), zeros-few c ok s k (r .0) (r .1), z .ends-found));
   bounded = λ a sat ds l. finish c ok a sat ds s k (omega arith);
+}
+
+-- ---- never stuck
+
+module _ (c : Circuit) (ok : WellFormed c) (a : List ℕ) (sat : Satisfying c a) (s : List ℕ) (k : KeepsCodes c s) where
+  -- a coded gate has the same value in both
+  coded-agrees : (g : ℕ) → g < c .gates → coded c g ≡ true → on a g ≡ on s g
+  coded-agrees g h e = let (v, w) = has-code (c .code g) e in sat .shows g h v w ∙ sym (k .shows g h v w)
+
+  -- so a coded gate of the front has an option left
+  no-entry-stuck : (e : Entry) → ¬ StuckAt c s e
+  no-entry-stuck e t =
+      let g = drawn c s (e .draw) in
+      let m = survey-is c ok s .listed .has g .1 (t .in-front) in
+      let (o, n, near) = near-left c ok a sat s k g m (coded-agrees g (in-front c ok s g m .0) (t .is-coded)) in
+      isEmpty-none o (optionsLeft c s g) (none-is c ok s g m .1 (t .none-left)) n
+
+-- a run whose entries are never stuck isn't
+pub runs-go : (c : Circuit) → WellFormed c → (s : List ℕ) → KeepsCodes c s → ((t : List ℕ) → KeepsCodes c t → (e : Entry) → ¬ StuckAt c t e)
+    → (es : List Entry) → told (run c s es .outcome .ending) .stuck ≡ false
+runs-go c ok s k free es = elim (which (told (run c s es .outcome .ending) .stuck)) [
+  | inl q ↦ (let p = demand2-on-circuits .runs c ok s k es in
+      let w = stuck-ends c es (config c s es) (run c s es .outcome .moves) (told (run c s es .outcome .ending)) (p .ends) q in
+      absurd (free _ (rw (p .last-is) at (p .keeps)) _ (w .sticks past-end)))
+  | inr q ↦ q
+]
+
+pub never-stuck : SatisfiableNeverStuck
+never-stuck c ok w s k = record {
+  entries = no-entry-stuck c ok (w .0) (w .1) s k;
+  runs = runs-go c ok s k (λ t l e. no-entry-stuck c ok (w .0) (w .1) t l e);
 }

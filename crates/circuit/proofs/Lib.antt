@@ -15,3 +15,4 @@ pub mod Found
 pub mod Moves
 pub mod Trace
 pub mod Finish
+pub mod Unchanged

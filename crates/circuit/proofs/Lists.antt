@@ -13,7 +13,7 @@ use lib.ListN.{length, getD, take, length-append, length-map, List·getD-append}
 use lib.Seq.{getD-at, take-suc}
 use lib.Dec.{eqb, leb}
 use borrow.Author.Tests.{eqb-true, eqb-false, eq-eqb, leb-true, leb-false}
-use Rattle.folds.proofs.Tests.{which, and-left, and-right, and-both, or-cases, or-first, or-second}
+use Rattle.folds.proofs.Tests.{which, and-left, and-right, and-both, and-past, or-cases, or-first, or-second}
 use Rattle.circuit.specs.Tools.{byte, upTo, member, Rising, Distinct, singles, select, holdsOfAll, isEmpty, pick}
 
 module _ {A : Type 0} (p : A → Bool) where
@@ -67,6 +67,14 @@ module _ {A : Type 0} (p : A → Bool) where
   pub in-all : (xs : List A) → ((x : A) → In x xs → p x ≡ true) → holdsOfAll p xs ≡ true
   in-all [] f = refl
   in-all (y ∷ ys) f = and-both (p y) (holdsOfAll p ys) (f y (here refl)) (in-all ys (λ x m. f x (there m)))
+
+-- a test that doesn't hold of all fails at one of them
+pub some-fails : {A : Type 0} (p : A → Bool) (xs : List A) → holdsOfAll p xs ≡ false → (x : A) × In x xs × (p x ≡ false)
+some-fails p [] e = absurd (true≢false e)
+some-fails p (x ∷ xs) e = elim (which (p x)) [
+  | inl q ↦ (let (y, i, f) = some-fails p xs (sym (and-past _ _ q) ∙ e) in (y, there i, f))
+  | inr q ↦ (x, here refl, q)
+]
 
 -- one of the elements with the smallest number
 pub least : {A : Type 0} (f : A → ℕ) (x : A) (xs : List A) → (o : A) × In o (x ∷ xs) × ((p : A) → In p (x ∷ xs) → f o ≤ f p)

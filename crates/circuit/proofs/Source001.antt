@@ -20,7 +20,7 @@ use Rattle.circuit.proofs.Justification.{restrict-has, restrict-justifi
 use Rattle.circuit.proofs.Gate.{laws, narrow}
 use Rattle.circuit.proofs.Evaluate.{agrees, justify}
 use Rattle.circuit.proofs.Cone.{unjustified-seen}
-use Rattle.circuit.proofs.Turns.{turn-turns, option-kid, option-turnable}
+use Rattle.circuit.proofs.Turns.{turn-turns, option-kid, option-once}
 
 smallest-in : (First : ℕ → Type 0) (Next : ℕ → ℕ → Type 0) (S : ℕ → Type 0) → IsClosed First Next S → (x : ℕ) → Smallest First Next x → S x
 smallest-in First Next S k x (first f) = k .has x f
@@ -68,7 +68,7 @@ module _ (c : Circuit) (ok : WellFormed c) (s : List ℕ) (k : Configuration c s
   move = down-options-are c ok s g h u .0 o .0 m
 
   turns : TurnsExactly o s (turn o s)
-  turns = turn-turns c o s (option-turnable c ok s g h u o m) k
+  turns = turn-turns c o s (option-once c ok s g h u o m) k
 
   stands : (x : ℕ) → ¬ In x o → on (turn o s) x ≡ on s x
   stands x n = ap (λ (b : ℕ). eqb b 1) (turns .others x n)

@@ -1,8 +1,8 @@
 -- What turning values does: to the codes, and to the distance from an assignment. And what the gates are that an entry turns. Assumes nothing.
 use Prim.Native.Nat.{ℕ, suc, _+_, _≤_, _<_}
 use mathlib.Core.Path.{_≡_, refl, sym, ap, _∙_}
-use mathlib.Core.Logic.{_⊎_, inl, inr}
-use mathlib.Core.Bool.{Bool, false, not, true≢false}
+use mathlib.Core.Logic.{_⊎_, inl, inr, _↔_}
+use mathlib.Core.Bool.{Bool, true, false, not, true≢false}
 use mathlib.Core.List.{List, [], _∷_}
 use mathlib.Core.List.{List·Memᴰ as In, List·Memᴰ·head as here, List·Memᴰ·tail as there, List·Memᴰ·cases-cons as cases, List·Memᴰ·not-nil as nowhere}
 use mathlib.Core.List.{Sublistᴰ as Sub}
@@ -10,15 +10,16 @@ use native.Mathlib.Omega.{arith}
 use lib.ListN.{length, getD, set, length-set}
 use lib.Seq.{getD-set-same, getD-set-other, set-out, ext-getD}
 use lib.Dec.{eqb, ltb}
-use borrow.Author.Tests.{eqb-true, eqb-false, eq-eqb, ltb-true, ltb-false, not-false}
+use borrow.Author.Tests.{eqb-true, eqb-false, eq-eqb, ltb-true, ltb-false, not-true, not-false}
 use Rattle.folds.proofs.Tests.{which}
 use Rattle.circuit.specs.Tools.{byte, Rising, upTo}
 use Rattle.circuit.specs.Circuit.{Circuit, isSome, coded, WellFormed, Configuration, on, justified}
 use Rattle.circuit.specs.Evaluate.{KeepsCodes, differ}
 use Rattle.circuit.specs.Source001.{TurnsExactly}
-use Rattle.circuit.specs.Run.{downOptions, turn}
+use Rattle.circuit.specs.Run.{downOptions, turnsNoCoded, optionsLeft, turn}
+use Rattle.circuit.specs.Promise.{TurnsNoCoded, OptionsLeftAre}
 use Rattle.circuit.proofs.Values.{byte-bit, on-byte, bit-byte, bit-turned}
-use Rattle.circuit.proofs.Lists.{sub-in, sub-rising, upTo-in, length-upTo, rising-upTo, select-none, select-length, select-less, select-zero}
+use Rattle.circuit.proofs.Lists.{sub-in, sub-rising, upTo-in, length-upTo, rising-upTo, select-in, in-select, select-sub, select-none, select-length, select-less, select-zero, all-in, in-all}
 use Rattle.circuit.proofs.Gate.{laws}
 use Rattle.circuit.proofs.Cone.{unjustified-seen}
 
@@ -88,11 +89,15 @@ differ-self : (c : Circuit) (s : List ℕ) → differ c s s ≡ 0
 unfolding differ
 differ-self c s = ap length (select-none _ (upTo (c .gates)) (λ x m. rw (eq-eqb (getD s x 0) (getD s x 0) refl)))
 
--- Gates that may be turned: each once, each there, none coded.
-pub record Turnable (c : Circuit) (o : List ℕ) : Type 0 where
+-- Gates of the circuit, each once.
+pub record EachOnce (c : Circuit) (o : List ℕ) : Type 0 where
   pub rising : Rising o
   pub inside : (x : ℕ) → In x o → x < c .gates
-  pub free : (x : ℕ) → In x o → coded c x ≡ false
+
+-- Gates that may be turned: none is coded.
+pub record Turnable (c : Circuit) (o : List ℕ) : Type 0 where
+  pub once : EachOnce c o
+  pub free : TurnsNoCoded c o
 
 module _ (c : Circuit) (a : List ℕ) (ka : Configuration c a) where
   -- turning gates at which s and a differ takes s nearer to a by their number
@@ -111,22 +116,42 @@ module _ (c : Circuit) (a : List ℕ) (ka : Configuration c a) where
       isnt = bit-turned (getD s x 0) (k .configuration .bits x)
 
       one : differ c s a ≡ suc (differ c (set s x b) a)
-      one = differ-one c s a x b (t .inside x (here refl)) (rw (k .configuration .long) (t .inside x (here refl))) is isnt
+      one = differ-one c s a x b (t .once .inside x (here refl)) (rw (k .configuration .long) (t .once .inside x (here refl))) is isnt
 
       rest : (y : ℕ) → In y o → on a y ≡ not (on (set s x b) y)
-      rest y m = rw (getD-set-other s x y b 0 (λ e. omega (arith, t .rising .0 y m))) (f y (there m))
+      rest y m = rw (getD-set-other s x y b 0 (λ e. omega (arith, t .once .rising .0 y m))) (f y (there m))
 
       later : Turnable c o
-      later = record { rising = t .rising .1; inside = λ y m. t .inside y (there m); free = λ y m. t .free y (there m) }
+      later = record { once = record { rising = t .once .rising .1; inside = λ y m. t .once .inside y (there m) }; free = λ y m. t .free y (there m) }
 
-pub turn-turns : (c : Circuit) (o s : List ℕ) → Turnable c o → Configuration c s → TurnsExactly o s (turn o s)
+pub turn-turns : (c : Circuit) (o s : List ℕ) → EachOnce c o → Configuration c s → TurnsExactly o s (turn o s)
 turn-turns c o s t k = record { these = λ x i. turn-in o s x (t .rising) (rw (k .long) (t .inside x i)) i; others = turn-out o s }
 
 -- as many bytes differ as are turned
 pub turn-differs : (c : Circuit) (o s : List ℕ) → Turnable c o → KeepsCodes c s → differ c s (turn o s) ≡ length o
 turn-differs c o s t k =
-    let far = differ-turn c (turn o s) (keeps-turn c o s (t .free) k .configuration) o s t k (turn-turns c o s t (k .configuration) .these) in
+    let far = differ-turn c (turn o s) (keeps-turn c o s (t .free) k .configuration) o s t k (turn-turns c o s (t .once) (k .configuration) .these) in
     let near = differ-self c (turn o s) in omega arith
+
+-- ---- the options left
+
+pub turns-no-coded : (c : Circuit) (o : List ℕ) → (turnsNoCoded c o ≡ true) ↔ TurnsNoCoded c o
+turns-no-coded c o = (λ q x i. not-true (coded c x) (all-in _ o q x i), λ u. in-all _ o (λ x i. rw (u x i)))
+
+pub left-in : (c : Circuit) (s : List ℕ) (g : ℕ) (o : List ℕ) → In o (optionsLeft c s g) ↔ (In o (downOptions c s g) × TurnsNoCoded c o)
+unfolding optionsLeft
+left-in c s g o = (
+  λ m. (let (i, q) = select-in (turnsNoCoded c) o (downOptions c s g) m in (i, turns-no-coded c o .0 q)),
+  λ p. in-select (turnsNoCoded c) o (downOptions c s g) (p .0) (turns-no-coded c o .1 (p .1)),
+)
+
+pub left-few : (c : Circuit) (s : List ℕ) (g : ℕ) → length (optionsLeft c s g) ≤ length (downOptions c s g)
+unfolding optionsLeft
+left-few c s g = select-length (turnsNoCoded c) (downOptions c s g)
+
+pub options-left-are : OptionsLeftAre
+unfolding optionsLeft
+options-left-are c s g = record { has = left-in c s g; in-order = select-sub (turnsNoCoded c) (downOptions c s g) }
 
 -- ---- the gates that an entry turns
 
@@ -144,18 +169,19 @@ module _ (c : Circuit) (ok : WellFormed c) (s : List ℕ) (g : ℕ) (h : g < c .
     pub option-kid : (o : List ℕ) → In o (downOptions c s g) → (x : ℕ) → In x o → In x (c .kids g)
     option-kid o n x i = sub-in x o (c .kids g) (option-sound o n .0) i
 
-    -- and no child is coded
-    pub option-turnable : (o : List ℕ) → In o (downOptions c s g) → Turnable c o
-    option-turnable o n = record {
+    pub option-once : (o : List ℕ) → In o (downOptions c s g) → EachOnce c o
+    option-once o n = record {
       rising = sub-rising o (c .kids g) (option-sound o n .0) (ok .rising g h);
       inside = λ x i. omega (arith, ok .below g h x (option-kid o n x i));
-      free = λ x i. ok .free g h x (option-kid o n x i);
     }
+
+    -- and one that is left no coded ones
+    pub left-turnable : (o : List ℕ) → In o (optionsLeft c s g) → Turnable c o
+    left-turnable o n = (let (i, u) = left-in c s g o .0 n in record { once = option-once o i; free = u })
 
   pub alone-turnable : coded c g ≡ false → Turnable c (g ∷ [])
   alone-turnable u = record {
-    rising = (nowhere-below, tt);
-    inside = λ x n. elim (cases n) [ inl e ↦ rw e h | inr z ↦ absurd (nowhere z) ];
+    once = record { rising = (nowhere-below, tt); inside = λ x n. elim (cases n) [ inl e ↦ rw e h | inr z ↦ absurd (nowhere z) ] };
     free = λ x n. elim (cases n) [ inl e ↦ rw e u | inr z ↦ absurd (nowhere z) ];
   }
     where

@@ -1,10 +1,12 @@
--- Facts on values: `not`, `same`, and a value as a byte. Assumes nothing.
-use Prim.Native.Nat.{ℕ, zero, suc, _≤_}
+-- Facts on values: `not`, `same`, a value as a byte, and the order of numbers. Assumes nothing.
+use Prim.Native.Nat.{ℕ, zero, suc, _≤_, _<_}
 use mathlib.Core.Path.{_≡_, refl, sym, ap, _∙_}
 use mathlib.Core.Logic.{_⊎_, inl, inr}
 use mathlib.Core.Bool.{Bool, true, false, not, true≢false}
 use native.Mathlib.Omega.{arith}
-use lib.Dec.{eqb}
+use lib.Dec.{eqb, ltb}
+use borrow.Author.Tests.{eqb-true, eqb-false, ltb-true, ltb-false}
+use Rattle.folds.proofs.Tests.{which}
 use Rattle.circuit.specs.Tools.{byte, same}
 
 -- two values agree or are opposite
@@ -72,3 +74,13 @@ pub bit-turned : (n : ℕ) → n ≤ 1 → eqb n (byte (not (eqb n 1))) ≡ fals
 bit-turned zero h = refl
 bit-turned (suc zero) h = refl
 bit-turned (suc (suc n)) h = absurd (omega arith)
+
+-- one of two numbers is smaller, or they are equal
+pub order : (i n : ℕ) → (i < n) ⊎ ((i ≡ n) ⊎ (n < i))
+order i n = elim (which (ltb i n)) [
+  | inl q ↦ inl (ltb-true i n q)
+  | inr q ↦ elim (which (eqb i n)) [
+    | inl e ↦ inr (inl (eqb-true i n e))
+    | inr e ↦ inr (inr (let a = ltb-false i n q in let b = eqb-false i n e in omega arith))
+  ]
+]

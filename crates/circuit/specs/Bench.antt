@@ -9,7 +9,7 @@ use lib.ListN.{getD}
 use lib.Dec.{eqb}
 use Rattle.circuit.specs.declared.Choice.{Choice}
 use Rattle.circuit.specs.declared.Choice.the-variants.{Greedy, Down, Up}
-use Rattle.circuit.specs.declared.Ending.the-variants.{Found, Spent}
+use Rattle.circuit.specs.declared.Ending.the-variants.{Found, Spent, Stuck}
 use Rattle.circuit.specs.Gate.{Input, Not, And, Or, Xor}
 use Rattle.circuit.specs.Circuit.{Circuit}
 use Rattle.circuit.specs.Evaluate.{evaluate, mark, differ}
@@ -95,9 +95,45 @@ nots = record {
 abbrev pub allAtOne : List ℕ
 allAtOne = 1 ∷ 1 ∷ 1 ∷ 1 ∷ 1 ∷ 1 ∷ []
 
+-- 0 input; 1 NOT(0); codes 0 = 0, 1 = 0: no state satisfies it
+unfoldable pub clash : Circuit
+clash = record {
+  gates = 2;
+  kind = λ g. getD (Input ∷ Not ∷ []) g Input;
+  kids = λ g. getD ([] ∷ one 0 ∷ []) g [];
+  code = λ g. some false;
+}
+
+-- 0, 1, 2 inputs; 3 OR(0,1,2); codes 0 = 0, 3 = 1: of its options the first turns a coded gate
+unfoldable pub choice : Circuit
+choice = record {
+  gates = 4;
+  kind = λ g. getD (Input ∷ Input ∷ Input ∷ Or ∷ []) g Input;
+  kids = λ g. getD ([] ∷ [] ∷ [] ∷ (0 ∷ pair 1 2) ∷ []) g [];
+  code = λ g. getD (some false ∷ none ∷ none ∷ some true ∷ []) g none;
+}
+
+-- 0, 1 inputs; 2 AND(0,1); 3 NOT(2); codes 0 = 0, 3 = 0: with gate 2 at 1 its single option turns a coded gate
+unfoldable pub inner : Circuit
+inner = record {
+  gates = 4;
+  kind = λ g. getD (Input ∷ Input ∷ And ∷ Not ∷ []) g Input;
+  kids = λ g. getD ([] ∷ [] ∷ pair 0 1 ∷ one 2 ∷ []) g [];
+  code = λ g. getD (some false ∷ none ∷ none ∷ some false ∷ []) g none;
+}
+
+-- 0, 1, 2 inputs; 3 AND(0,1,2); code 3 = 1
+unfoldable pub all : Circuit
+all = record {
+  gates = 4;
+  kind = λ g. getD (Input ∷ Input ∷ Input ∷ And ∷ []) g Input;
+  kids = λ g. getD ([] ∷ [] ∷ [] ∷ (0 ∷ pair 1 2) ∷ []) g [];
+  code = λ g. cond (eqb g 3) (some true) none;
+}
+
 -- "every draw is 0; "down 3" is kind down with option 3"
 abbrev pub entry : Choice → Entry
-entry choice = record { draw = 0; choice = choice }
+entry h = record { draw = 0; choice = h }
 
 abbrev pub drawing : ℕ → Entry
 drawing d = record { draw = d; choice = Down 0 }
@@ -120,6 +156,8 @@ pub record Examples : Type 0 where
   -- AND at 1 turns its wrong children and no other; XOR has an option for each child.
   pub and-wrong-alone : downOptions circuitP9 (1 ∷ 0 ∷ 1 ∷ []) 2 ≡ one 1 ∷ []
   pub xor-options : downOptions adder A 3 ≡ one 0 ∷ one 1 ∷ []
+  -- An option is turned whole.
+  pub turns-all-wrong : entryTurns all (0 ∷ 0 ∷ 0 ∷ 1 ∷ []) (entry (Down 0)) ≡ 0 ∷ pair 1 2
   -- A draw of 4 from a front of three: the gate at place 1.
   pub drawn-turns : entryTurns nots allAtOne (drawing 4) ≡ one 1
   -- P7: up on a coded gate acts as down, with its option. P5: on an uncoded gate it turns it.
@@ -135,6 +173,15 @@ pub record Examples : Type 0 where
   pub two-moves :
       run circuitP9 (0 ∷ 0 ∷ 1 ∷ []) (entry (Down 0) ∷ entry (Down 0) ∷ [])
       ≡ record { outcome = record { ending = Spent 1; moves = 2; flips = 3 }; last = 0 ∷ 1 ∷ 1 ∷ [] }
+  -- F-1: numbering and modulo run over the options left, here those of gates 1 and 2; greedy's too.
+  pub first-left : entryTurns choice (0 ∷ 0 ∷ 0 ∷ 1 ∷ []) (entry (Down 0)) ≡ one 1
+  pub modulo-left : entryTurns choice (0 ∷ 0 ∷ 0 ∷ 1 ∷ []) (entry (Down 3)) ≡ one 2
+  pub greedy-left : entryTurns choice (0 ∷ 0 ∷ 0 ∷ 1 ∷ []) (entry (Greedy 3)) ≡ one 2
+  -- An option with a coded gate is out whole, and then an uncoded gate is turned itself.
+  pub out-whole : entryTurns inner (0 ∷ 0 ∷ 1 ∷ 0 ∷ []) (entry (Down 0)) ≡ one 2
+  -- A coded one is stuck, and the entry isn't counted; with the tape used up before it is Spent.
+  pub stuck-at-once : run clash (0 ∷ 0 ∷ []) (entry (Up 0) ∷ []) ≡ stop Stuck (0 ∷ 0 ∷ [])
+  pub spent-before : run clash (0 ∷ 0 ∷ []) [] ≡ stop (Spent 1) (0 ∷ 0 ∷ [])
   -- P8: the answer is not the configuration, for B breaks gate 3; input 2, at 1 and not in the cone, does not keep its value. P11: input 0, at 0 and not in the cone, is not turned.
   pub answer-is-evaluated : answer adder B ≡ 1 ∷ 1 ∷ 0 ∷ 0 ∷ 1 ∷ 0 ∷ 0 ∷ 1 ∷ []
   pub answer-outside-cone : answer circuitP11 (0 ∷ 1 ∷ 1 ∷ 0 ∷ 1 ∷ []) ≡ 0 ∷ 1 ∷ 1 ∷ 0 ∷ 1 ∷ []

@@ -32,12 +32,11 @@ gatesIn c p = select p (upTo (c .gates))
 --     fits      "Fan-in: 0 for an input, 1 for NOT, 2 for XOR, 2 to 8 for AND and OR."
 --     below     "It is below its parent's number"
 --     rising    "a gate's children strictly ascend"
---     free      "A coded gate is nobody's child."
+-- "a coded gate may now be a child" (F-1): of codes nothing is demanded.
 pub record WellFormed (c : Circuit) : Type 0 where
   pub fits : (g : ℕ) → g < c .gates → fanInFits (c .kind g) (length (c .kids g)) ≡ true
   pub below : (g : ℕ) → g < c .gates → (x : ℕ) → In x (c .kids g) → x < g
   pub rising : (g : ℕ) → g < c .gates → Rising (c .kids g)
-  pub free : (g : ℕ) → g < c .gates → (x : ℕ) → In x (c .kids g) → coded c x ≡ false
 
 -- "Gate 0 of an accepted map is always an input."
 abbrev pub GateZeroIsInput : Type 0

@@ -13,10 +13,11 @@ pub struct Entry {
     pub choice: Choice,
 }
 
-// How a run ends: Spent with the front's size, Refused with the number of the test that failed.
+// How a run ends: Spent with the front's size, Stuck at an entry that can't be done, Refused with the number of the test that failed.
 pub enum Ending {
     Found,
     Spent(u16),
+    Stuck,
     Refused(u8),
 }
 
