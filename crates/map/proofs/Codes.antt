@@ -2,7 +2,7 @@
 use Prim.Native.Nat.{ℕ, zero, suc, _+_, _≤_, _<_}
 use mathlib.Core.Path.{_≡_, refl}
 use mathlib.Core.Bool.{Bool}
-use mathlib.Core.Option.{none, some}
+use mathlib.Core.Option.{some}
 use mathlib.Core.Logic.{inl, inr}
 use mathlib.Core.List.{List}
 use native.Mathlib.Nat.{le-of-suc-le-suc, eq-or-lt-of-le}
@@ -31,9 +31,3 @@ code-found m up (suc n) r l h = elim (eq-or-lt-of-le (le-of-suc-le-suc l)) [
   | inr q ↦ (let s = steps (λ i. codeGate m i) (codeCount m) r n up q (omega arith) in
       rw (ne-eqb (codeGate m n) (codeGate m r) (λ e. omega arith)) (code-found m up n r q (omega arith)))
 ]
-
--- a gate that no record has is uncoded
-pub code-none : (m : List ℕ) (n g : ℕ) → ((r : ℕ) → r < n → ¬ (codeGate m r ≡ g)) → codeAmong m n g ≡ none
-unfolding codeAmong
-code-none m zero g h = refl
-code-none m (suc n) g h = rw (ne-eqb (codeGate m n) g (h n (omega arith))) (code-none m n g (λ r l. h r (omega arith)))

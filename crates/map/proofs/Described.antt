@@ -1,19 +1,18 @@
 -- Check by plain facts: its number, which maps it accepts, what an accepted map has, and what Check says. Assumes nothing.
 use Prim.Native.Nat.{ℕ, zero, suc, _+_, _-_, _<_, _≤_}
 use mathlib.Core.Path.{_≡_, refl, sym, ap, _∙_}
-use mathlib.Core.Bool.{Bool, true, false, not, false≢true, true≢false}
+use mathlib.Core.Bool.{Bool, true, false, false≢true, true≢false}
 use mathlib.Core.Option.{some}
 use mathlib.Core.Logic.{inl, inr}
 use mathlib.Core.List.{List, [], _∷_, _++_}
 use native.Mathlib.Omega.{arith}
 use lib.Dec.{eqb, leb, ltb}
-use borrow.Author.Tests.{eqb-true, eqb-false, eq-eqb, lt-ltb, ltb-true, leb-true, le-leb, not-true}
+use borrow.Author.Tests.{eqb-true, eqb-false, eq-eqb, lt-ltb, ltb-true, leb-true, le-leb}
 use Rattle.folds.specs.Folds.{_and_, _or_, allBelow}
 use Rattle.folds.proofs.Tests.{which, and-left, and-right, and-both, or-first, or-second}
 use Rattle.folds.proofs.Loops.{all-at, all-of}
 use Rattle.circuit.specs.Tools.{byte}
 use Rattle.circuit.specs.Gate.{lastKind, kindOf, kindNumber, isInput, FanInAllowed}
-use Rattle.circuit.specs.Circuit.{isSome, coded}
 use Rattle.circuit.specs.Evaluate.{inputs, inputsBefore}
 use Rattle.circuit.proofs.Lists.{map-at}
 use Rattle.circuit.proofs.Values.{on-byte, bit-byte}
@@ -21,11 +20,11 @@ use Rattle.circuit.proofs.Survey.{lists-set}
 use Rattle.circuit.proofs.Source001.{gate-zero}
 use Rattle.map.specs.Map.{mostGates, gateCount, codeCount, kindByte, fanIn, childAt, codeGate, kidsOf, circuit}
 use Rattle.kinds.specs.Kinds.{kindFits}
-use Rattle.map.specs.Check.{offsetsTest, kindTest, positionTest, positionsTest, childTest, childrenTest, codeTest, freeTest, firstFailed, contentsTests, bodiesTests, mapTests, verdict, checkEffect, Laid, Summed, Ordered, CodesAllowed, Described, MapAccepts, Test, passes, fails, MapNumber, CheckNumber, CheckAccepts, CheckDoes, CheckRefuses, AcceptedMaps}
+use Rattle.map.specs.Check.{offsetsTest, kindTest, positionTest, positionsTest, childTest, childrenTest, codeTest, firstFailed, contentsTests, bodiesTests, mapTests, verdict, checkEffect, Laid, Summed, Ordered, CodesAllowed, Described, MapAccepts, Test, passes, fails, MapNumber, CheckNumber, CheckAccepts, CheckDoes, CheckRefuses, AcceptedMaps}
 use Rattle.kinds.proofs.Bytes.{gate-kind}
 use Rattle.map.proofs.Laws.{past, stop, no-test, contents-tests}
 use Rattle.map.proofs.Accepted.{ascends, contents, bodies-tests, facts, kids-length, well-formed}
-use Rattle.map.proofs.Codes.{code-record, code-found, code-none}
+use Rattle.map.proofs.Codes.{code-record, code-found}
 
 -- ---- a test and its fact
 
@@ -72,7 +71,7 @@ kind-is (suc (suc (suc zero))) n a = refl
 kind-is (suc (suc (suc (suc zero)))) n a = refl
 kind-is (suc (suc (suc (suc (suc k))))) n a = absurd a
 
--- ---- each of the eight, there and back
+-- ---- each of the seven, there and back
 
 module _ (m : List ℕ) where
   abbrev Few : Type 0
@@ -140,19 +139,6 @@ module _ (m : List ℕ) where
   of-codes p = all-of (codeTest m) (codeCount m) (λ r l. and-both _ _ (and-both _ _ (and-both _ _ (lt-ltb _ _ (p .gates r l)) (neighbours (λ i. codeGate m i) (codeCount m) r (p .ascend) l))
       (le-leb _ _ (p .values r l))) (eq-eqb _ _ (p .zeros r l)))
 
-  abbrev Free : Type 0
-  Free = (g j r : ℕ) → g < gateCount m → j < fanIn m g → r < codeCount m → ¬ (childAt m g j ≡ codeGate m r)
-
-  free : CodesAllowed m → allBelow (gateCount m) (freeTest m) ≡ true → Free
-  unfolding freeTest
-  free p e g j r h l b q = true≢false (sym (ap isSome (code-found m (p .ascend) (codeCount m) r b (omega arith))) ∙ ap (coded (circuit m)) (sym q)
-      ∙ not-true _ (all-at (λ i. not (coded (circuit m) (childAt m g i))) (fanIn m g) j (all-at (freeTest m) (gateCount m) g e h) l))
-
-  of-free : Free → allBelow (gateCount m) (freeTest m) ≡ true
-  unfolding freeTest
-  of-free p = all-of (freeTest m) (gateCount m) (λ g h. all-of (λ i. not (coded (circuit m) (childAt m g i))) (fanIn m g)
-      (λ j l. ap (λ o. not (isSome o)) (code-none m (codeCount m) (childAt m g j) (λ r b e. p g j r h l b (sym e)))))
-
 -- ---- the number of a call, and the maps that are accepted
 
 pub map-number : (m : List ℕ) (ts : List (ℕ × Bool)) (n : ℕ) (Rest : Type 0) → n ≡ firstFailed (mapTests m ++ ts) → (verdict m ≡ 0 → n ≡ firstFailed ts → Rest) → MapNumber n m Rest
@@ -164,16 +150,15 @@ map-number m ts n Rest e rest =
     tested 4 _ _ n _ _ e3 (kinds m) (of-kinds m) λ q4 e4.
     tested 5 _ _ n _ _ e4 (summed m) (of-summed m) λ q5 e5.
     tested 6 _ _ n _ _ e5 (ordered m) (of-ordered m) λ q6 e6.
-    tested 7 _ _ n _ _ e6 (codes m) (of-codes m) λ q7 e7.
-    tested 8 _ ts n _ Rest e7 (free m (codes m q7)) (of-free m) λ q8 e8.
-    rest (past _ _ _ q1 ∙ past _ _ _ q2 ∙ past _ _ _ q3 ∙ past _ _ _ q4 ∙ past _ _ _ q5 ∙ past _ _ _ q6 ∙ past _ _ _ q7 ∙ past _ _ _ q8 ∙ no-test) e8
+    tested 7 _ ts n _ Rest e6 (codes m) (of-codes m) λ q7 e7.
+    rest (past _ _ _ q1 ∙ past _ _ _ q2 ∙ past _ _ _ q3 ∙ past _ _ _ q4 ∙ past _ _ _ q5 ∙ past _ _ _ q6 ∙ past _ _ _ q7 ∙ no-test) e7
 
 module _ (m : List ℕ) where
   described : verdict m ≡ 0 → Described m
   described v =
       let (t1, t2, t3) = contents-tests m (contents m v) in
-      let (t4, t5, t6, t7, t8) = bodies-tests m v in
-      record { contents = leb-true _ _ t1; few = few m t2; laid = laid m t3; kinds = kinds m t4; summed = summed m t5; ordered = ordered m t6; codes = codes m t7; free = free m (codes m t7) t8 }
+      let (t4, t5, t6, t7) = bodies-tests m v in
+      record { contents = leb-true _ _ t1; few = few m t2; laid = laid m t3; kinds = kinds m t4; summed = summed m t5; ordered = ordered m t6; codes = codes m t7 }
 
   of-described : Described m → verdict m ≡ 0
   unfolding verdict mapTests contentsTests bodiesTests
@@ -185,7 +170,6 @@ module _ (m : List ℕ) where
       ∙ past _ _ _ (of-summed m (d .summed))
       ∙ past _ _ _ (of-ordered m (d .ordered))
       ∙ past _ _ _ (of-codes m (d .codes))
-      ∙ past _ _ _ (of-free m (d .free))
       ∙ no-test
 
   number-is : checkEffect m .number ≡ firstFailed (mapTests m ++ [])

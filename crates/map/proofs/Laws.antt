@@ -10,17 +10,17 @@ use native.Mathlib.Omega.{arith}
 use lib.Dec.{eqb, ltb, leb}
 use lib.ListN.{length, getD, set, replicate}
 use lib.Seq.{getD-set-same, getD-set-other}
-use borrow.Author.Tests.{eqb-true, eqb-false, ltb-true, ltb-false, leb-true}
+use borrow.Author.Tests.{eqb-true, eqb-false, ltb-true, leb-true}
 use Rattle.folds.specs.Folds.{_and_, _or_, allBelow}
 use Rattle.folds.proofs.Tests.{which, and-left, and-right}
-use Rattle.folds.proofs.Loops.{all-at, all-of, all-fails, fails-at}
+use Rattle.folds.proofs.Loops.{all-at}
 use Rattle.circuit.specs.Tools.{byte}
 use Rattle.circuit.specs.Gate.{isInput, kindOf}
 use Rattle.circuit.specs.Circuit.{coded}
 use Rattle.circuit.specs.Evaluate.{inputsBefore}
 use Rattle.circuit.proofs.Lists.{place-more}
-use Rattle.map.specs.Map.{mostGates, u16At, childrenPlace, gateCount, childCount, codeCount, kindByte, fanIn, firstChild, fanInsBefore, codesPlace, codeGate, codeAmong, circuit}
-use Rattle.map.specs.Check.{offsetsTest, positionTest, positionsTest, childTest, childrenTest, codeTest, freeTest, firstFailed, contentsTests}
+use Rattle.map.specs.Map.{mostGates, gateCount, childCount, codeCount, kindByte, fanIn, firstChild, fanInsBefore, codesPlace, codeGate, codeAmong, circuit}
+use Rattle.map.specs.Check.{offsetsTest, positionTest, positionsTest, childTest, childrenTest, codeTest, firstFailed, contentsTests}
 use Rattle.map.specs.Inner.{Shaped, Placed, Sound, CodeMarks}
 
 -- ---- the sum of the fan-ins
@@ -42,15 +42,6 @@ fans-within m (suc n) g l = elim (eq-or-lt-of-le (le-of-suc-le-suc l)) [
   | inr s ↦ omega (arith, fans-within m n g s)
 ]
 
--- every place below the sum is in some gate's stretch
-fans-parent : (m : List ℕ) (n p : ℕ) → p < fanInsBefore m n → (g : ℕ) × (j : ℕ) × (g < n) × (j < fanIn m g) × (fanInsBefore m g + j ≡ p)
-unfolding fanInsBefore
-fans-parent m zero p l = absurd (omega arith)
-fans-parent m (suc n) p l = elim (which (ltb p (fanInsBefore m n))) [
-  | inl q ↦ (let (g, j, k, f, e) = fans-parent m n p (ltb-true _ _ q) in (g, j, omega arith, f, e))
-  | inr q ↦ (let h = ltb-false p (fanInsBefore m n) q in (n, p - fanInsBefore m n, omega arith, omega arith, omega arith))
-]
-
 -- ---- the records that the tests give
 
 pub shaped-of : (m : List ℕ) → gateCount m ≤ mostGates → offsetsTest m ≡ true → Shaped m
@@ -61,9 +52,6 @@ pub placed-of : (m : List ℕ) → Shaped m → positionsTest m ≡ true → Pla
 unfolding positionsTest positionTest
 placed-of m s t = record {
   shaped = s;
-  parent = λ p l.
-      let (g, j, k, f, e) = fans-parent m (gateCount m) p (omega (arith, eqb-true (fanInsBefore m (gateCount m)) (childCount m) (and-right _ _ t))) in
-      record { gate = g; place = j; in-map = k; in-fan = f; is = omega (arith, eqb-true (firstChild m g) (fanInsBefore m g) (all-at (positionTest m) (gateCount m) g (and-left _ _ t) k)) };
   within = λ g l.
       omega (
         arith,
@@ -121,17 +109,17 @@ marks-more m r marks x e l k g = rw (add-one r) (elim (which (eqb (codeGate m r)
 ])
 
 -- a gate is coded where it is marked
-pub mark-none : (m marks : List ℕ) (x : ℕ) → CodeMarks m (codeCount m) marks → getD marks x 0 ≡ 0 → not (coded (circuit m) x) ≡ true
+pub mark-none : (m marks : List ℕ) (x : ℕ) → CodeMarks m (codeCount m) marks → getD marks x 0 ≡ 0 → coded (circuit m) x ≡ false
 mark-none m marks x k e = unmarked (coded (circuit m) x) (sym (k x) ∙ e)
   where
-    unmarked : (b : Bool) → byte b ≡ 0 → not b ≡ true
+    unmarked : (b : Bool) → byte b ≡ 0 → b ≡ false
     unmarked true q = absurd (omega arith)
     unmarked false q = refl
 
-pub mark-some : (m marks : List ℕ) (x : ℕ) → CodeMarks m (codeCount m) marks → (getD marks x 0 ≡ 0 → ⊥) → not (coded (circuit m) x) ≡ false
+pub mark-some : (m marks : List ℕ) (x : ℕ) → CodeMarks m (codeCount m) marks → (getD marks x 0 ≡ 0 → ⊥) → coded (circuit m) x ≡ true
 mark-some m marks x k h = marked (coded (circuit m) x) (λ q. h (k x ∙ q))
   where
-    marked : (b : Bool) → (byte b ≡ 0 → ⊥) → not b ≡ false
+    marked : (b : Bool) → (byte b ≡ 0 → ⊥) → b ≡ true
     marked true q = refl
     marked false q = absurd (q refl)
 
@@ -154,23 +142,6 @@ sound-of m p a b = record {
   below = λ g j l h. ltb-true _ _ (and-left _ _ (all-at (childTest m g) (fanIn m g) j (all-at (childrenTest m) (gateCount m) g a l) h));
   coded-gate = λ r l. ltb-true _ _ (and-left _ _ (and-left _ _ (and-left _ _ (all-at (codeTest m) (codeCount m) r b l))));
 }
-
--- ---- test 8, over all children
-
-abbrev pub freeChild : List ℕ → ℕ → Bool
-freeChild m p = not (coded (circuit m) (u16At m (childrenPlace m + 2 * p)))
-
-pub child-in-map : (m : List ℕ) → Sound m → (p : ℕ) → p < childCount m → u16At m (childrenPlace m + 2 * p) < gateCount m
-child-in-map m s p l = let o = s .placed .parent p l in rw (← o .is) (omega (arith, o .in-map, s .below (o .gate) (o .place) (o .in-map) (o .in-fan)))
-
-pub free-fails : (m : List ℕ) → Placed m → (p : ℕ) → p < childCount m → freeChild m p ≡ false → false ≡ allBelow (gateCount m) (freeTest m)
-unfolding freeTest
-free-fails m s p l e = let o = s .parent p l in
-    fails-at _ (o .gate) _ (o .in-map) (all-fails _ _ (o .place) (o .in-fan) (rw (← o .is) at e))
-
-pub free-all : (m : List ℕ) → Placed m → allBelow (childCount m) (freeChild m) ≡ true → true ≡ allBelow (gateCount m) (freeTest m)
-unfolding freeTest
-free-all m s a = sym (all-of _ _ (λ g l. all-of _ _ (λ j h. all-at (freeChild m) _ (firstChild m g + j) a (omega (arith, s .within g l)))))
 
 -- the tests on the contents, one by one, where none fails
 pub contents-tests : (m : List ℕ) → firstFailed (contentsTests m) ≡ 0

@@ -1,12 +1,12 @@
 -- For inner functions: what they are given of a map. Assumes nothing.
 use Prim.Native.Nat.{ℕ, _+_, _<_, _≤_}
 use mathlib.Core.Path.{_≡_}
-use mathlib.Core.Bool.{true, false}
+use mathlib.Core.Bool.{true}
 use mathlib.Core.List.{List}
 use lib.ListN.{length, getD}
 use Rattle.circuit.specs.Tools.{byte}
-use Rattle.circuit.specs.Circuit.{isSome, coded}
-use Rattle.map.specs.Map.{mostGates, gateCount, childCount, codeCount, lengthGiven, fanIn, firstChild, childAt, codeGate, codeValue, codeAmong, circuit, inputCount}
+use Rattle.circuit.specs.Circuit.{isSome}
+use Rattle.map.specs.Map.{mostGates, gateCount, childCount, codeCount, lengthGiven, fanIn, firstChild, childAt, codeGate, codeValue, codeAmong, inputCount}
 use Rattle.map.specs.declared.Counts.{Counts}
 use Rattle.map.specs.declared.decode.Contents.{Contents}
 use Rattle.map.specs.Check.{kindTest}
@@ -23,18 +23,9 @@ pub record Shaped (m : List ℕ) : Type 0 where
   pub few : gateCount m ≤ mostGates
   pub long : length m ≡ lengthGiven m
 
--- child p of the whole map is child `place` of gate `gate`
-pub record Parent (m : List ℕ) (p : ℕ) : Type 0 where
-  pub gate : ℕ
-  pub place : ℕ
-  pub in-map : gate < gateCount m
-  pub in-fan : place < fanIn m gate
-  pub is : firstChild m gate + place ≡ p
-
--- what is used of tests 1 to 3 and 5: every child has a parent, and no gate's children go past the last child
+-- what is used of tests 1 to 3 and 5: no gate's children go past the last child
 pub record Placed (m : List ℕ) : Type 0 where
   pub shaped : Shaped m
-  pub parent : (p : ℕ) → p < childCount m → Parent m p
   pub within : (g : ℕ) → g < gateCount m → firstChild m g + fanIn m g ≤ childCount m
 
 -- and of 6 and 7
@@ -43,7 +34,7 @@ pub record Sound (m : List ℕ) : Type 0 where
   pub below : (g j : ℕ) → g < gateCount m → j < fanIn m g → childAt m g j < g
   pub coded-gate : (r : ℕ) → r < codeCount m → codeGate m r < gateCount m
 
--- and of 2, 4, 8 and more of 6 and 7: the facts of an accepted map that inner functions go by (`Described` has all)
+-- and of 2, 4 and more of 6 and 7: the facts of an accepted map that inner functions go by (`Described` has all)
 pub record IsMap (m : List ℕ) : Type 0 where
   pub sound : Sound m
   pub some-gate : 1 ≤ gateCount m
@@ -51,7 +42,6 @@ pub record IsMap (m : List ℕ) : Type 0 where
   pub children-ascend : (g j : ℕ) → g < gateCount m → j + 1 < fanIn m g → childAt m g j < childAt m g (j + 1)
   pub codes-ascend : (r : ℕ) → r + 1 < codeCount m → codeGate m r < codeGate m (r + 1)
   pub code-values : (r : ℕ) → r < codeCount m → codeValue m r ≤ 1
-  pub free : (g j : ℕ) → g < gateCount m → j < fanIn m g → coded (circuit m) (childAt m g j) ≡ false
 
 -- What inner functions are given: a map with these facts, as every accepted one has, and its counts, as Check answers them
 pub record Counted (m : List ℕ) (n : Counts) : Type 0 where

@@ -1,4 +1,4 @@
-// The tests 1 to 8 of a map, each over all it concerns before the next.
+// The tests 1 to 7 of a map, each over all it concerns before the next.
 use super::MOST_GATES;
 use super::decode;
 use super::decode::Contents;
@@ -7,10 +7,10 @@ ghost use Prim.Native.Nat.{_-_, _<_, _≤_};
 ghost use lib.ListN.{length};
 ghost use lib.Dec.{eqb, ltb};
 ghost use Rattle.folds.specs.Folds.{_or_, allBelow};
-ghost use Rattle.map.specs.Map.{mostGates, gateCount, codeCount, codesPlace, fanIn, codeGate};
-ghost use Rattle.map.specs.Check.{offsetsTest, kindTest, positionsTest, childTest, childrenTest, codeTest, freeTest};
+ghost use Rattle.map.specs.Map.{gateCount, codeCount, codesPlace, fanIn, codeGate};
+ghost use Rattle.map.specs.Check.{offsetsTest, kindTest, positionsTest, childTest, childrenTest, codeTest};
 ghost use Rattle.map.specs.Check.{firstFailed, contentsTests, bodiesTests, verdict};
-ghost use Rattle.map.specs.Inner.{ContentsOf, Shaped, Placed, Sound, CodeMarks};
+ghost use Rattle.map.specs.Inner.{ContentsOf, Shaped, Placed};
 
 // Test 3.
 fn offsets_ok(map: &[u8], n: Contents) -> bool
@@ -167,36 +167,6 @@ fn codes_ok(map: &[u8], n: Contents, start: usize) -> bool
     true
 }
 
-// Test 8, with the coded gates marked: over all children, whosever they are.
-fn all_free(map: &[u8], n: Contents, marks: &[u8]) -> bool
-    requires { ⌜ ContentsOf (now map) n ⌝ }
-    requires { ⌜ Sound (now map) × ((mostGates ≤ length (now marks)) × CodeMarks (now map) (codeCount (now map)) (now marks)) ⌝ }
-    ensures { λ r. ⌜ r ≡ allBelow (gateCount (now (map .entry))) (freeTest (now (map .entry))) ⌝ }
-{
-    let gates = n.gates;
-    let children = n.children;
-    let mut p = 0;
-    while p < children {
-        let x = decode::any_child(map, gates, p);
-        if marks[x] != 0 {
-            return false;
-        }
-        p += 1;
-    }
-    true
-}
-
-// Test 8.
-fn free_ok(map: &[u8], n: Contents, start: usize) -> bool
-    requires { ⌜ ContentsOf (now map) n ⌝ }
-    requires { ⌜ Sound (now map) × (start ≡ codesPlace (now map)) ⌝ }
-    ensures { λ r. ⌜ r ≡ allBelow (gateCount (now (map .entry))) (freeTest (now (map .entry))) ⌝ }
-{
-    let mut marks = [0u8; MOST_GATES];
-    decode::mark_codes(map, start, n.codes, &mut marks);
-    all_free(map, n, &marks)
-}
-
 // The first of the tests 2 and 3 that fails, or 0.
 fn contents_failed(map: &[u8], n: Contents) -> u8
     requires { ⌜ 12 ≤ length (now map) ⌝ }
@@ -215,7 +185,7 @@ fn contents_failed(map: &[u8], n: Contents) -> u8
     0
 }
 
-// The first of the tests 4 to 8 that fails, or 0.
+// The first of the tests 4 to 7 that fails, or 0.
 fn bodies_failed(map: &[u8], n: Contents) -> u8
     requires { ⌜ ContentsOf (now map) n ⌝ }
     requires { ⌜ Shaped (now map) ⌝ }
@@ -233,9 +203,6 @@ fn bodies_failed(map: &[u8], n: Contents) -> u8
     }
     if !codes_ok(map, n, start) {
         return 7;
-    }
-    if !free_ok(map, n, start) {
-        return 8;
     }
     0
 }

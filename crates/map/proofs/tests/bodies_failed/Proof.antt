@@ -4,10 +4,10 @@ use mathlib.Core.Bool.{true}
 use native.Mathlib.Omega.{arith}
 use Rattle.folds.specs.Folds.{allBelow}
 use Rattle.folds.proofs.Tests.{flag-false, flag-true}
-use Rattle.map.specs.Map.{gateCount, codeCount, codesPlace}
-use Rattle.map.specs.Check.{kindTest, positionsTest, childrenTest, codeTest, firstFailed, bodiesTests}
+use Rattle.map.specs.Map.{gateCount, codesPlace}
+use Rattle.map.specs.Check.{kindTest, positionsTest, childrenTest, firstFailed, bodiesTests}
 use Rattle.map.specs.Inner.{Placed}
-use Rattle.map.proofs.Laws.{placed-of, sound-of}
+use Rattle.map.proofs.Laws.{placed-of}
 use borrow.Author.Needs.{needs}
 use Rattle.map.proofs.tests.bodies_failed.Statement.{statement}
 use Rattle.map.proofs.tests.bodies_failed.Tie as tie
@@ -16,7 +16,6 @@ use Rattle.map.proofs.tests.bodies_failed.Lts as lts
 use Rattle.map.proofs.tests.all_children_ok.Reads as all-children-ok-reads
 use Rattle.map.proofs.decode.child_place.Reads as child-place-reads
 use Rattle.map.proofs.tests.codes_ok.Reads as codes-ok-reads
-use Rattle.map.proofs.tests.free_ok.Reads as free-ok-reads
 use Rattle.map.proofs.tests.kinds_ok.Reads as kinds-ok-reads
 use Rattle.map.proofs.tests.positions_ok.Reads as positions-ok-reads
 
@@ -29,9 +28,6 @@ five c = flag-true _ _ (c .if2 .left) (c .before .positions-ok .ensures)
 
 six : (c : tie.Else3) → let s : tie.Start = search in allBelow (gateCount (now (s .args .map))) (childrenTest (now (s .args .map))) ≡ true
 six c = flag-true _ _ (c .if3 .left) (c .before .all-children-ok .ensures)
-
-seven : (c : tie.Else4) → let s : tie.Start = search in allBelow (codeCount (now (s .args .map))) (codeTest (now (s .args .map))) ≡ true
-seven c = flag-true _ _ (c .if4 .left) (c .before .codes-ok .ensures)
 
 placed : (c : tie.Else2) → let s : tie.Start = search in Placed (now (s .args .map))
 placed c = let s : tie.Start = search in placed-of _ (s .pre .1) (five c)
@@ -62,16 +58,9 @@ returns-4 : tie.Need-returns-4
 unfolding bodiesTests firstFailed
 returns-4 c = rw (four (search), five (search), six (search), flag-false _ _ (c .if4 .taken) (c .before .codes-ok .ensures))
 
-free-ok-requires : tie.Need-free-ok-requires
-free-ok-requires c κs = let s : tie.Start = search in (s .pre .0, (sound-of _ (placed (search)) (six (search)) (seven c), codes-at (search)))
-
 returns-5 : tie.Need-returns-5
 unfolding bodiesTests firstFailed
-returns-5 c = rw (four (search), five (search), six (search), seven (search), flag-false _ _ (c .if5 .taken) (c .before .free-ok .ensures))
-
-returns-6 : tie.Need-returns-6
-unfolding bodiesTests firstFailed
-returns-6 c = rw (four (search), five (search), six (search), seven (search), flag-true _ _ (c .if5 .left) (c .before .free-ok .ensures))
+returns-5 c = rw (four (search), five (search), six (search), flag-true _ _ (c .if4 .left) (c .before .codes-ok .ensures))
 
 pub bodies-failed-spec : {M : Type 1} → statement M
 bodies-failed-spec =
@@ -86,6 +75,4 @@ bodies-failed-spec =
     returns-3
     codes-ok-requires
     returns-4
-    free-ok-requires
-    returns-5
-    returns-6)
+    returns-5)
