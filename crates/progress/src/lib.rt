@@ -26,7 +26,7 @@ pub enum Advanced {
     Over(Ending),
 }
 
-// One step of a run that stands at p: it ends, or does the next entry. The marks are the cone and front of s, before and after.
+// One step of a run that stands at p: it ends, or does the next entry. An entry that turns nothing is stuck, and all is as it was. The marks are the cone and front of s, before and after.
 pub fn advance(
     map: &[u8],
     counts: Counts,
@@ -52,17 +52,20 @@ pub fn advance(
     let Step::Next(e, next) = reached else {
         return Advanced::Over(Ending::Spent(front));
     };
-    let turn = step::entry(map, counts, e, front, coded, marks, s, trial, scratch);
+    let report = step::entry(map, counts, e, front, coded, marks, s, trial, scratch);
+    if report.turned == 0 {
+        return Advanced::Over(Ending::Stuck);
+    }
     let after = step::settle(map, counts, s, marks);
     Advanced::On(Progress {
         at: next,
         moves: p.moves + 1,
-        flips: p.flips + turn.turned,
+        flips: p.flips + report.turned,
         front: after,
     })
 }
 
-// Step after step, until the front is empty or the tape is used up. Then s is the last configuration, and the marks are its cone and front.
+// Step after step, until the front is empty, the tape is used up or an entry is stuck. Then s is the last configuration, and the marks are its cone and front.
 pub fn go(
     map: &[u8],
     counts: Counts,

@@ -1,7 +1,7 @@
--- The gates that a choice turns, by the places of the drawn gate's children. Assumes nothing.
+-- What a choice does, by a listing of the options left of the drawn gate. Assumes nothing.
 use Prim.Native.Nat.{ℕ, zero, suc, _+_, _<_, _≤_, _%_}
-use mathlib.Core.Path.{_≡_, refl, ap, _∙_}
-use mathlib.Core.Bool.{Bool, false}
+use mathlib.Core.Path.{_≡_, refl, sym, ap, _∙_}
+use mathlib.Core.Bool.{Bool, true, false}
 use mathlib.Core.List.{List, [], _∷_, _++_, map, List·Memᴰ as In, List·Memᴰ·head as here, List·Memᴰ·tail as there}
 use native.Mathlib.Omega.{arith}
 use native.Mathlib.Nat.{mod-lt}
@@ -9,21 +9,19 @@ use native.Mathlib.Numerals.{add-one}
 use lib.ListN.{length, getD, set, drop, length-map, List·getD-append}
 use lib.Dec.{leb}
 use Rattle.folds.specs.Folds.{_and_}
-use Rattle.circuit.specs.declared.Choice.the-variants.{Greedy}
-use Rattle.circuit.specs.Tools.{upTo, select, holdsOfAll, pick}
-use Rattle.circuit.specs.Gate.{kindOf}
-use Rattle.circuit.specs.Circuit.{on, justified}
-use Rattle.circuit.specs.Run.{downOptions, optionAt, greedyOptions, chosen}
-use Rattle.circuit.proofs.Lists.{map-at, map-append, length-upTo, in-upTo, select-same, select-images}
-use Rattle.circuit.proofs.Turns.{option-few}
-use Rattle.map.specs.Map.{gateCount, kindByte, fanIn, childAt, kidsOf, circuit}
-use Rattle.map.specs.Inner.{IsMap}
-use Rattle.map.proofs.Accepted.{well-formed}
-use Rattle.kinds.proofs.ByPlace.{options-by}
+use Rattle.circuit.specs.declared.Choice.{Choice}
+use Rattle.circuit.specs.declared.Choice.the-variants.{Greedy, Down}
+use Rattle.circuit.specs.Tools.{upTo, select, holdsOfAll, isEmpty, pick}
+use Rattle.circuit.specs.Run.{optionsLeft, greedyOptions, option, noneLeft, chosen}
+use Rattle.circuit.proofs.Lists.{map-at, map-append, length-upTo, in-upTo, select-same, select-images, some-isEmpty}
+use Rattle.circuit.proofs.Moves.{some-greedy, one-of-some, none-chosen}
+use Rattle.map.specs.Map.{circuit}
 use Rattle.state.proofs.Filling.{store}
 use Rattle.picks.specs.Picks.{bests, bestAt}
 use Rattle.picks.proofs.Best.{some-best, best-below}
-use Rattle.steps.specs.Options.{optionCountOf, optionHas, optionUpTo, optionGates, weightsOf, interestAfter}
+use Rattle.steps.specs.declared.Listing.{Listing}
+use Rattle.steps.specs.Options.{optionGates, LeftAre, weightsOf, interestAfter}
+use Rattle.steps.proofs.Listed.{listed}
 
 -- ---- lists of images
 
@@ -43,63 +41,77 @@ getD-image f d (x ∷ xs) (suc k) l = getD-image f d xs k (omega arith)
 pick-image : {A : Type 0} (f : ℕ → A) (d : A) (xs : List ℕ) (i : ℕ) → 1 ≤ length xs → pick (map f xs) i d ≡ f (pick xs i 0)
 pick-image f d xs i h = rw (length-map xs f) (getD-image f d xs (i % length xs) (mod-lt i h))
 
--- ---- the options
-
 module _ (m s : List ℕ) (g : ℕ) where
-  pub down-options : downOptions (circuit m) s g ≡ map (optionGates m s g) (upTo (optionCountOf m s g))
-  unfolding downOptions kidsOf optionCountOf optionUpTo optionHas
-  down-options = options-by (kindOf (kindByte m g)) (on s g) (on s) (λ j. childAt m g j) (fanIn m g)
-
-  count-is : length (downOptions (circuit m) s g) ≡ optionCountOf m s g
-  count-is = ap length down-options ∙ length-map (upTo (optionCountOf m s g)) (optionGates m s g) ∙ length-upTo (optionCountOf m s g)
-
-  -- an unjustified gate has an option, and at most eight
-  pub some-options : IsMap m → g < gateCount m → justified (circuit m) s g ≡ false → (1 ≤ optionCountOf m s g) × (optionCountOf m s g ≤ 8)
-  some-options k h u = rw (← count-is) (option-few (circuit m) (well-formed m k) s g h u)
-
-  pub option-is : (i : ℕ) → 1 ≤ optionCountOf m s g → optionAt (circuit m) s g i ≡ optionGates m s g (i % optionCountOf m s g)
-  unfolding optionAt
-  option-is i h = rw (count-is) (ap (λ (os : List (List ℕ)). getD os (i % optionCountOf m s g) []) down-options ∙ map-at (optionGates m s g) (optionCountOf m s g) (i % optionCountOf m s g) [] (mod-lt i h))
-
-  -- ---- greedy
-
-  abbrev weight : ℕ → ℕ
-  weight i = interestAfter m s (optionGates m s g i)
-
-  -- the options that greedy picks from, by their places
-  best-options : (n : ℕ) → greedyOptions (circuit m) s (map (optionGates m s g) (upTo n))
-      ≡ map (optionGates m s g) (select (λ i. holdsOfAll (λ k. leb (weight i) (weight k)) (upTo n)) (upTo n))
-  unfolding greedyOptions
-  best-options n = select-images (optionGates m s g) _ (upTo n) ∙ ap (map (optionGates m s g)) (select-same _ _ (upTo n) (λ i j. all-images (optionGates m s g) _ (upTo n)))
-
-  weights-at : (rest : List ℕ) (n i : ℕ) → i < n → getD (weightsOf (interestAfter m s) m s g n ++ rest) i 0 ≡ weight i
-  unfolding weightsOf
-  weights-at rest n i l = List·getD-append (map weight (upTo n)) rest 0 i (rw (length-map, length-upTo) l) ∙ map-at weight n i 0 l
-
-  best-weights : (rest : List ℕ) (n : ℕ) → select (λ i. holdsOfAll (λ k. leb (weight i) (weight k)) (upTo n)) (upTo n)
-      ≡ select (λ i. holdsOfAll (λ k. leb (getD (weightsOf (interestAfter m s) m s g n ++ rest) i 0) (getD (weightsOf (interestAfter m s) m s g n ++ rest) k 0)) (upTo n)) (upTo n)
-  best-weights rest n = select-same _ _ (upTo n) (λ i j. all-same _ _ (upTo n) (λ k l.
-      rw (weights-at rest n i (in-upTo i n j), weights-at rest n k (in-upTo k n l))))
-
-  pub greedy-is : (rest : List ℕ) (i j : ℕ) → bestAt (weightsOf (interestAfter m s) m s g (optionCountOf m s g) ++ rest) (optionCountOf m s g) i ≡ j → 1 ≤ optionCountOf m s g
-      → chosen (circuit m) s g (Greedy i) ≡ optionGates m s g j
-  unfolding chosen bestAt
-  greedy-is rest i j e h =
-      ap (λ (os : List (List ℕ)). pick (greedyOptions (circuit m) s os) i []) down-options
-      ∙ ap (λ (os : List (List ℕ)). pick os i []) (best-options (optionCountOf m s g) ∙ ap (map (optionGates m s g)) (best-weights rest (optionCountOf m s g)))
-      ∙ pick-image (optionGates m s g) [] (bests (weightsOf (interestAfter m s) m s g (optionCountOf m s g) ++ rest) (optionCountOf m s g)) i (some-best (weightsOf (interestAfter m s) m s g (optionCountOf m s g) ++ rest) (optionCountOf m s g) h)
-      ∙ ap (optionGates m s g) e
-
-  -- a single option is the best
-  pub greedy-one : (i : ℕ) → optionCountOf m s g ≡ 1 → chosen (circuit m) s g (Greedy i) ≡ optionGates m s g 0
-  greedy-one i e = let b = best-below (weightsOf (interestAfter m s) m s g (optionCountOf m s g) ++ []) (optionCountOf m s g) i (omega arith) in greedy-is [] i 0 (omega arith) (omega arith)
-
   -- ---- the loop that weighs
 
-  pub weights-none : (w : List ℕ) → w ≡ weightsOf (interestAfter m s) m s g 0 ++ drop 0 w
-  unfolding weightsOf
-  weights-none w = refl
+  module _ (places : List ℕ) where
+    -- the option at a place, and its weight
+    abbrev gatesAt : ℕ → List ℕ
+    gatesAt k = optionGates m s g (getD places k 0)
 
-  pub weights-more : (w : List ℕ) (i v : ℕ) → i < length w → v ≡ weight i → set (weightsOf (interestAfter m s) m s g i ++ drop i w) i v ≡ weightsOf (interestAfter m s) m s g (i + 1) ++ drop (i + 1) w
-  unfolding weightsOf
-  weights-more w i v l e = rw (add-one i, e, map-append weight (upTo i) (i ∷ [])) (store (map weight (upTo i)) w i (weight i) (length-map (upTo i) weight ∙ length-upTo i) l)
+    abbrev weight : ℕ → ℕ
+    weight k = interestAfter m s (gatesAt k)
+
+    abbrev weighed : List ℕ → ℕ → List ℕ
+    weighed rest n = weightsOf (interestAfter m s) m s g places n ++ rest
+
+    pub weights-none : (w : List ℕ) → w ≡ weightsOf (interestAfter m s) m s g places 0 ++ drop 0 w
+    unfolding weightsOf
+    weights-none w = refl
+
+    pub weights-more : (w : List ℕ) (k v : ℕ) → k < length w → v ≡ weight k
+        → set (weightsOf (interestAfter m s) m s g places k ++ drop k w) k v ≡ weightsOf (interestAfter m s) m s g places (k + 1) ++ drop (k + 1) w
+    unfolding weightsOf
+    weights-more w k v l e = rw (add-one k, e, map-append weight (upTo k) (k ∷ [])) (store (map weight (upTo k)) w k (weight k) (length-map (upTo k) weight ∙ length-upTo k) l)
+
+    -- the options that greedy picks from, by their places
+    best-options : (n : ℕ) → greedyOptions (circuit m) s (map gatesAt (upTo n))
+        ≡ map gatesAt (select (λ i. holdsOfAll (λ k. leb (weight i) (weight k)) (upTo n)) (upTo n))
+    unfolding greedyOptions
+    best-options n = select-images gatesAt _ (upTo n) ∙ ap (map gatesAt) (select-same _ _ (upTo n) (λ i j. all-images gatesAt _ (upTo n)))
+
+    weights-at : (rest : List ℕ) (n i : ℕ) → i < n → getD (weighed rest n) i 0 ≡ weight i
+    unfolding weightsOf
+    weights-at rest n i l = List·getD-append (map weight (upTo n)) rest 0 i (rw (length-map, length-upTo) l) ∙ map-at weight n i 0 l
+
+    best-weights : (rest : List ℕ) (n : ℕ) → select (λ i. holdsOfAll (λ k. leb (weight i) (weight k)) (upTo n)) (upTo n)
+        ≡ select (λ i. holdsOfAll (λ k. leb (getD (weighed rest n) i 0) (getD (weighed rest n) k 0)) (upTo n)) (upTo n)
+    best-weights rest n = select-same _ _ (upTo n) (λ i j. all-same _ _ (upTo n) (λ k l.
+        rw (weights-at rest n i (in-upTo i n j), weights-at rest n k (in-upTo k n l))))
+
+  -- ---- the choices
+
+  module _ (l : Listing) (a : LeftAre m s g l) where
+    abbrev n : ℕ
+    n = l .many
+
+    left-many : length (optionsLeft (circuit m) s g) ≡ n
+    left-many = ap length (listed m s g l a) ∙ length-map (upTo n) (gatesAt (l .places)) ∙ length-upTo n
+
+    some-left : 1 ≤ n → isEmpty (optionsLeft (circuit m) s g) ≡ false
+    some-left h = some-isEmpty (optionsLeft (circuit m) s g) (omega (arith, left-many))
+
+    -- none is left
+    pub seeks-none : n ≡ 0 → (h : Choice) → noneLeft (circuit m) g ≡ chosen (circuit m) s g h
+    seeks-none z h = sym (none-chosen (circuit m) s g (ap isEmpty (listed m s g l a) ∙ ap (λ (k : ℕ). isEmpty (map (gatesAt (l .places)) (upTo k))) z) h)
+
+    pub seeks-down : (i : ℕ) → 1 ≤ n → option (gatesAt (l .places) (i % n)) ≡ chosen (circuit m) s g (Down i)
+    unfolding chosen
+    seeks-down i h = sym (one-of-some (circuit m) g i (optionsLeft (circuit m) s g) (some-left h)
+        ∙ ap option (rw left-many (ap (λ (os : List (List ℕ)). getD os (i % n) []) (listed m s g l a) ∙ map-at (gatesAt (l .places)) n (i % n) [] (mod-lt i h))))
+
+    pub seeks-greedy : (rest : List ℕ) (i j : ℕ) → bestAt (weighed (l .places) rest n) n i ≡ j → 1 ≤ n
+        → option (gatesAt (l .places) j) ≡ chosen (circuit m) s g (Greedy i)
+    unfolding chosen bestAt
+    seeks-greedy rest i j e h =
+        let w = weighed (l .places) rest n in
+        sym (one-of-some (circuit m) g i (greedyOptions (circuit m) s (optionsLeft (circuit m) s g)) (some-greedy (circuit m) s (optionsLeft (circuit m) s g) (some-left h))
+        ∙ ap option (
+        ap (λ (os : List (List ℕ)). pick (greedyOptions (circuit m) s os) i []) (listed m s g l a)
+        ∙ ap (λ (os : List (List ℕ)). pick os i []) (best-options (l .places) n ∙ ap (map (gatesAt (l .places))) (best-weights (l .places) rest n))
+        ∙ pick-image (gatesAt (l .places)) [] (bests w n) i (some-best w n h)
+        ∙ ap (gatesAt (l .places)) e))
+
+    -- a single option is the best
+    pub seeks-one : (i : ℕ) → n ≡ 1 → option (gatesAt (l .places) 0) ≡ chosen (circuit m) s g (Greedy i)
+    seeks-one i e = let b = best-below (weighed (l .places) [] n) n i (omega arith) in seeks-greedy [] i 0 (omega arith) (omega arith)

@@ -31,7 +31,7 @@ turn-length [] s = refl
 turn-length (x ∷ xs) s = turn-length xs _ ∙ simp length-set
 
 -- what a list of images has
-in-map : (f : ℕ → ℕ) (y : ℕ) (xs : List ℕ) → In y (map f xs) → (x : ℕ) × In x xs × (y ≡ f x)
+pub in-map : (f : ℕ → ℕ) (y : ℕ) (xs : List ℕ) → In y (map f xs) → (x : ℕ) × In x xs × (y ≡ f x)
 in-map f y [] i = absurd (nowhere i)
 in-map f y (x ∷ xs) i = elim (cases i) [
   | inl e ↦ (x, here refl, e)

@@ -1,3 +1,4 @@
 pub mod Flips
+pub mod Listed
 pub mod Choices
 pub mod Fronts

@@ -27,7 +27,7 @@ pub record Workspace (m : List ℕ) (gates : ℕ) (coded s trial scratch : List 
   pub codes : CodesMarked m gates coded
   pub space : Space gates s trial scratch
 
--- an unjustified gate: what is used of the one that an entry draws
+-- an unjustified gate: what functions need of the one that an entry draws
 pub record Drawable (m : List ℕ) (gates : ℕ) (s : List ℕ) (g : ℕ) : Type 0 where
   pub below : g < gates
   pub unjustified : justified (circuit m) s g ≡ false
@@ -37,7 +37,7 @@ pub record Flipped (xs before after : List ℕ) (count : ℕ) : Type 0 where
   pub are : after ≡ turn xs before
   pub counted : count ≡ length xs
 
--- the entry is done (what then stands in the memory for weighing is left open: it is overwritten before it is read)
+-- what the entry came to (what then stands in the memory for weighing is left open: it is overwritten before it is read)
 pub record DidEntry (c : Circuit) (s : List ℕ) (e : Entry) (r : MoveReport) (after : List ℕ) : Type 0 where
   pub gate : r .gate ≡ move c s e .gate
   pub turned : r .turned ≡ move c s e .flips

@@ -1,4 +1,7 @@
 // Greedy choices: the option with the smallest interest set after the move.
+use super::Listing;
+use super::Sought;
+use super::left;
 use super::options;
 use map::Counts;
 use picks::weights;
@@ -11,8 +14,8 @@ ghost use Rattle.circuit.specs.declared.Choice.the-variants.{Greedy};
 ghost use Rattle.circuit.specs.Run.{chosen};
 ghost use Rattle.map.specs.Map.{circuit};
 ghost use Rattle.map.specs.Inner.{Counted};
-ghost use Rattle.steps.specs.Options.{optionGates, weightsOf, interestAfter};
-ghost use Rattle.steps.specs.Steps.{Space, Drawable, Flipped};
+ghost use Rattle.steps.specs.Options.{optionGates, LeftAre, soughtChosen, weightsOf, interestAfter};
+ghost use Rattle.steps.specs.Steps.{Space, Workspace, Drawable};
 
 // Copies s over the trial configuration.
 fn copy(s: &[u8], trial: &mut [u8])
@@ -47,12 +50,12 @@ fn weigh(
     sizes.interest
 }
 
-// The weights of the n options of gate g: the sizes of the interest set after them.
+// The weights of the options of gate g that are left: the sizes of the interest set after them.
 fn weigh_all(
     map: &[u8],
     counts: Counts,
     g: usize,
-    n: usize,
+    left: Listing,
     s: &[u8],
     trial: &mut [u8],
     scratch: &mut [u8],
@@ -60,38 +63,46 @@ fn weigh_all(
 )
     requires { ⌜ Counted (now map) counts ⌝ }
     requires { ⌜ (g < counts .gates) × Space (counts .gates) (now s) (now trial) (now scratch) ⌝ }
-    requires { ⌜ n ≤ length (now weighed) ⌝ }
+    requires { ⌜ LeftAre (now map) (now s) g left × (left .many ≤ length (now weighed)) ⌝ }
     ensures { λ _. ⌜ now (weighed .exit)
-        ≡ weightsOf (interestAfter (now (map .entry)) (now (s .entry))) (now (map .entry)) (now (s .entry)) g n ++ drop n (now (weighed .entry)) ⌝ }
+        ≡ weightsOf (interestAfter (now (map .entry)) (now (s .entry))) (now (map .entry)) (now (s .entry)) g (left .places) (left .many)
+        ++ drop (left .many) (now (weighed .entry)) ⌝ }
 {
-    let mut i = 0;
-    while i < n {
-        weighed[i] = weigh(map, counts, g, i, s, trial, scratch);
-        i += 1;
+    let many = left.many;
+    let places = left.places;
+    let mut k = 0;
+    while k < many {
+        weighed[k] = weigh(map, counts, g, places[k], s, trial, scratch);
+        k += 1;
     }
 }
 
-// Turns the option that greedy with option byte i picks. Returns how many values.
-pub fn turn(
+// Of the options of gate g that are left the one that greedy with option byte i picks, or that there is none. A single one is not weighed.
+pub fn seek(
     map: &[u8],
     counts: Counts,
     g: usize,
     i: u8,
-    s: &mut [u8],
+    coded: &[u8],
+    s: &[u8],
     trial: &mut [u8],
     scratch: &mut [u8],
-) -> u32
+) -> Sought
     requires { ⌜ Counted (now map) counts ⌝ }
     requires { ⌜ Drawable (now map) (counts .gates) (now s) g ⌝ }
-    requires { ⌜ Space (counts .gates) (now s) (now trial) (now scratch) ⌝ }
-    ensures { λ r. ⌜ Flipped (chosen (circuit (now (map .entry))) (now (s .entry)) g (Greedy i)) (now (s .entry)) (now (s .exit)) r ⌝ }
+    requires { ⌜ Workspace (now map) (counts .gates) (now coded) (now s) (now trial) (now scratch) ⌝ }
+    ensures { λ r. ⌜ soughtChosen (now (map .entry)) (now (s .entry)) g r ≡ chosen (circuit (now (map .entry))) (now (s .entry)) g (Greedy i) ⌝ }
 {
-    let n = options::count(map, counts, g, s);
-    if n == 1 {
-        return options::flip_option(map, counts, g, 0, s);
+    let left = left::list(map, counts, g, coded, s);
+    let many = left.many;
+    let places = left.places;
+    if many == 0 {
+        return Sought::NoneLeft;
+    }
+    if many == 1 {
+        return Sought::At(places[0]);
     }
     let mut weighed = [0u16; 8];
-    weigh_all(map, counts, g, n, s, trial, scratch, &mut weighed);
-    let j = weights::best(&weighed, n, i);
-    options::flip_option(map, counts, g, j, s)
+    weigh_all(map, counts, g, left, s, trial, scratch, &mut weighed);
+    Sought::At(places[weights::best(&weighed, many, i)])
 }

@@ -1,4 +1,4 @@
-// Turning the gates of an option.
+// How many options a gate has, and turning the gates of one.
 use map::Counts;
 use map::decode;
 ghost use mathlib.Core.Path.{_≡_};

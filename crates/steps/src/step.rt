@@ -1,6 +1,8 @@
 // What an entry does.
 use super::MoveReport;
+use super::Sought;
 use super::greedy;
+use super::left;
 use super::options;
 use circuit::Choice;
 use circuit::Entry;
@@ -8,42 +10,77 @@ use map::Counts;
 use marks::cone;
 use picks::draw;
 ghost use mathlib.Core.Path.{_≡_};
-ghost use Prim.Native.Nat.{_≤_};
-ghost use lib.ListN.{length};
-ghost use Rattle.circuit.specs.declared.Choice.the-variants.{Up};
-ghost use Rattle.circuit.specs.Run.{optionAt, chosen};
+ghost use mathlib.Core.Bool.{cond};
+ghost use mathlib.Core.List.{[], _∷_};
+ghost use Prim.Native.Nat.{_<_, _≤_};
+ghost use lib.ListN.{length, getD};
+ghost use lib.Dec.{eqb};
+ghost use Rattle.circuit.specs.declared.Choice.the-variants.{Down, Up};
+ghost use Rattle.circuit.specs.Run.{chosen, turnedBy};
 ghost use Rattle.map.specs.Map.{circuit};
 ghost use Rattle.map.specs.Inner.{Counted};
 ghost use Rattle.marks.specs.Marks.{MarksOf};
+ghost use Rattle.steps.specs.Options.{soughtChosen};
 ghost use Rattle.steps.specs.Steps.{CodesMarked, Workspace, Drawable, Flipped, DidEntry};
 
-// Turns the option of gate g that stands at i modulo their number. Returns how many values.
-fn down(map: &[u8], counts: Counts, g: usize, i: u8, s: &mut [u8]) -> u32
-    requires { ⌜ Counted (now map) counts ⌝ }
-    requires { ⌜ Drawable (now map) (counts .gates) (now s) g ⌝ }
-    requires { ⌜ counts .gates ≡ length (now s) ⌝ }
-    ensures { λ r. ⌜ Flipped (optionAt (circuit (now (map .entry))) (now (s .entry)) g i) (now (s .entry)) (now (s .exit)) r ⌝ }
-{
-    let n = options::count(map, counts, g, s);
-    options::flip_option(map, counts, g, i as usize % n, s)
-}
-
-// Turns gate g itself, or if it is coded as down does. Returns how many values.
-fn up(map: &[u8], counts: Counts, g: usize, i: u8, coded: &[u8], s: &mut [u8]) -> u32
-    requires { ⌜ Counted (now map) counts ⌝ }
-    requires { ⌜ Drawable (now map) (counts .gates) (now s) g ⌝ }
-    requires { ⌜ counts .gates ≡ length (now s) ⌝ }
-    requires { ⌜ CodesMarked (now map) (counts .gates) (now coded) ⌝ }
-    ensures { λ r. ⌜ Flipped (chosen (circuit (now (map .entry))) (now (s .entry)) g (Up i)) (now (s .entry)) (now (s .exit)) r ⌝ }
+// Turns gate g, of which no option is left. A coded one is stuck: nothing is turned. Returns how many values.
+fn turn_itself(g: usize, coded: &[u8], s: &mut [u8]) -> u32
+    requires { ⌜ (g < length (now coded)) × (g < length (now s)) ⌝ }
+    ensures { λ r. ⌜ Flipped (cond (eqb (getD (now (coded .entry)) g 0) 0) (g ∷ []) []) (now (s .entry)) (now (s .exit)) r ⌝ }
 {
     if coded[g] != 0 {
-        return down(map, counts, g, i, s);
+        return 0;
     }
     options::flip(s, g);
     1
 }
 
-// Turns what a choice says where gate g is drawn. Returns how many values.
+// Turns the option of gate g that was sought, or where none is left the gate itself, unless that is coded. Returns how many values.
+fn turn_sought(
+    map: &[u8],
+    counts: Counts,
+    g: usize,
+    sought: Sought,
+    coded: &[u8],
+    s: &mut [u8],
+) -> u32
+    requires { ⌜ Counted (now map) counts ⌝ }
+    requires { ⌜ (g < counts .gates) × (counts .gates ≡ length (now s)) ⌝ }
+    requires { ⌜ CodesMarked (now map) (counts .gates) (now coded) ⌝ }
+    ensures { λ r. ⌜ Flipped (turnedBy g (soughtChosen (now (map .entry)) (now (s .entry)) g sought)) (now (s .entry)) (now (s .exit)) r ⌝ }
+{
+    let Sought::At(i) = sought else {
+        return turn_itself(g, coded, s);
+    };
+    options::flip_option(map, counts, g, i, s)
+}
+
+// Turns the option that down with option byte i picks. Returns how many values.
+fn down(map: &[u8], counts: Counts, g: usize, i: u8, coded: &[u8], s: &mut [u8]) -> u32
+    requires { ⌜ Counted (now map) counts ⌝ }
+    requires { ⌜ Drawable (now map) (counts .gates) (now s) g × (counts .gates ≡ length (now s)) ⌝ }
+    requires { ⌜ CodesMarked (now map) (counts .gates) (now coded) ⌝ }
+    ensures { λ r. ⌜ Flipped (turnedBy g (chosen (circuit (now (map .entry))) (now (s .entry)) g (Down i))) (now (s .entry)) (now (s .exit)) r ⌝ }
+{
+    let sought = left::seek(map, counts, g, i, coded, s);
+    turn_sought(map, counts, g, sought, coded, s)
+}
+
+// Turns gate g itself, without a search for options, or if it is coded as down does. Returns how many values.
+fn up(map: &[u8], counts: Counts, g: usize, i: u8, coded: &[u8], s: &mut [u8]) -> u32
+    requires { ⌜ Counted (now map) counts ⌝ }
+    requires { ⌜ Drawable (now map) (counts .gates) (now s) g × (counts .gates ≡ length (now s)) ⌝ }
+    requires { ⌜ CodesMarked (now map) (counts .gates) (now coded) ⌝ }
+    ensures { λ r. ⌜ Flipped (turnedBy g (chosen (circuit (now (map .entry))) (now (s .entry)) g (Up i))) (now (s .entry)) (now (s .exit)) r ⌝ }
+{
+    if coded[g] == 0 {
+        options::flip(s, g);
+        return 1;
+    }
+    down(map, counts, g, i, coded, s)
+}
+
+// Turns what a choice says where gate g is drawn. Returns how many values: 0 where it is stuck.
 fn turn_chosen(
     map: &[u8],
     counts: Counts,
@@ -57,16 +94,19 @@ fn turn_chosen(
     requires { ⌜ Counted (now map) counts ⌝ }
     requires { ⌜ Drawable (now map) (counts .gates) (now s) g ⌝ }
     requires { ⌜ Workspace (now map) (counts .gates) (now coded) (now s) (now trial) (now scratch) ⌝ }
-    ensures { λ r. ⌜ Flipped (chosen (circuit (now (map .entry))) (now (s .entry)) g choice) (now (s .entry)) (now (s .exit)) r ⌝ }
+    ensures { λ r. ⌜ Flipped (turnedBy g (chosen (circuit (now (map .entry))) (now (s .entry)) g choice)) (now (s .entry)) (now (s .exit)) r ⌝ }
 {
     match choice {
-        Choice::Greedy(i) => greedy::turn(map, counts, g, i, s, trial, scratch),
-        Choice::Down(i) => down(map, counts, g, i, s),
+        Choice::Greedy(i) => {
+            let sought = greedy::seek(map, counts, g, i, coded, s, trial, scratch);
+            turn_sought(map, counts, g, sought, coded, s)
+        }
+        Choice::Down(i) => down(map, counts, g, i, coded, s),
         Choice::Up(i) => up(map, counts, g, i, coded, s),
     }
 }
 
-// Does an entry on s, whose cone and front the marks show. Returns the drawn gate and how many values it turned.
+// Does an entry on s, whose cone and front the marks show. Returns the drawn gate and how many values it turned: 0, and s is as it was, where the entry is stuck.
 pub fn entry(
     map: &[u8],
     counts: Counts,

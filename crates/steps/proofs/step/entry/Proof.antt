@@ -4,7 +4,7 @@ use native.Mathlib.Omega.{arith}
 use mathlib.Core.Path.{_≡_, ap, _∙_}
 use mathlib.Core.Bool.{false}
 use Prim.Native.Nat.{_<_}
-use Rattle.circuit.specs.Run.{drawn, entryTurns}
+use Rattle.circuit.specs.Run.{drawn, entryChosen, entryTurns}
 use Rattle.map.specs.Map.{gateCount, circuit}
 use Rattle.map.proofs.Accepted.{well-formed}
 use Rattle.steps.proofs.Fronts.{front-size, drawn-is, drawn-unjustified}
@@ -46,7 +46,7 @@ turn-chosen-requires c κs =
     (s .pre .0, (record { below = omega (arith, d .0); unjustified = d .1 }, s .pre .1 .0))
 
 returns : tie.Need-returns
-unfolding entryTurns
+unfolding entryTurns entryChosen
 returns c =
     let e = is-drawn (search) in
     let t : tie.After-turn-chosen = search in

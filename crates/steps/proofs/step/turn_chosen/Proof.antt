@@ -1,21 +1,22 @@
-use Rattle.circuit.specs.Run.{chosen}
+use mathlib.Core.Path.{sym}
 use borrow.Author.Needs.{needs}
 use Rattle.steps.proofs.step.turn_chosen.Statement.{statement}
 use Rattle.steps.proofs.step.turn_chosen.Tie as tie
 use Rattle.steps.proofs.step.turn_chosen.Reads as reads
 use Rattle.steps.proofs.step.turn_chosen.Lts as lts
-use Rattle.steps.proofs.greedy.turn.Reads as turn-reads
+use Rattle.steps.proofs.greedy.seek.Reads as seek-reads
 use Rattle.steps.proofs.step.down.Reads as down-reads
+use Rattle.steps.proofs.step.turn_sought.Reads as turn-sought-reads
 use Rattle.steps.proofs.step.up.Reads as up-reads
 
 returns : tie.Need-returns
 returns c =
     let choice : tie.After-choice = search in
-    let t : tie.After-turn = search in
-    rw (choice .choice .given .1) (t .turn .ensures)
+    let q : tie.After-seek = search in
+    let t : tie.After-turn-sought = search in
+    rw (choice .choice .given .1, sym (q .seek .ensures)) (t .turn-sought .ensures)
 
 returns-2 : tie.Need-returns-2
-unfolding chosen
 returns-2 c =
     let choice : tie.After-choice2 = search in
     let d : tie.After-down = search in
@@ -32,6 +33,7 @@ turn-chosen-spec =
     tie.close
     (tie.spec
     (λ c. search needs)
+    (λ c κs. search needs)
     (λ c κs. search needs)
     (λ c. search needs)
     (λ c κs. search needs)

@@ -1,7 +1,6 @@
 use denote.Ref.{now}
 use mathlib.Core.Path.{_≡_}
 use mathlib.Core.Bool.{true, false}
-use borrow.Author.Tests.{not-true, not-false}
 use Rattle.circuit.specs.Circuit.{coded}
 use Rattle.circuit.specs.Run.{chosen}
 use Rattle.map.specs.Map.{circuit}
@@ -18,19 +17,19 @@ returns : tie.Need-returns
 unfolding chosen
 returns c =
     let s : tie.Start = search in
-    let d : tie.After-down = search in
+    let f : tie.After-flip = search in
     let t : tie.Then1 = search in
-    let e : coded (circuit (now (s .args .map))) (s .args .g) ≡ true = not-false _ (mark-some (now (s .args .map)) (now (s .args .coded)) (s .args .g) (s .pre .1 .1 .1 .marks) (t .if1 .taken)) in
-    rw e (d .down .ensures)
+    let e : coded (circuit (now (s .args .map))) (s .args .g) ≡ false = mark-none (now (s .args .map)) (now (s .args .coded)) (s .args .g) (s .pre .1 .1 .marks) (t .if1 .taken) in
+    record { are = rw e (f .flip .ensures); counted = rw e }
 
 returns-2 : tie.Need-returns-2
 unfolding chosen
 returns-2 c =
     let s : tie.Start = search in
-    let f : tie.After-flip = search in
+    let d : tie.After-down = search in
     let t : tie.Else1 = search in
-    let e : coded (circuit (now (s .args .map))) (s .args .g) ≡ false = not-true _ (mark-none (now (s .args .map)) (now (s .args .coded)) (s .args .g) (s .pre .1 .1 .1 .marks) (t .if1 .left)) in
-    record { are = rw e (f .flip .ensures); counted = rw e }
+    let e : coded (circuit (now (s .args .map))) (s .args .g) ≡ true = mark-some (now (s .args .map)) (now (s .args .coded)) (s .args .g) (s .pre .1 .1 .marks) (t .if1 .left) in
+    rw e (d .down .ensures)
 
 pub up-spec : {M : Type 1} → statement M
 up-spec =
