@@ -9,7 +9,7 @@ ghost use Rattle.search.specs.Run.{runEffect};
 ghost use Rattle.abi_state.specs.Numbers.{hostAnswer};
 ghost use Rattle.abi_search.specs.Numbers.{moveForHost, runForHost};
 
-// Move. Numbers: the drawn gate, how many values it turned.
+// Move. Numbers: the drawn gate, how many values it turned: 0 where it is stuck.
 #[no_mangle]
 pub extern "C" fn peeriewick_move(
     map: &[u8],
@@ -28,7 +28,7 @@ pub extern "C" fn peeriewick_move(
     }
 }
 
-// Run. Numbers: 1 for Found and 0 for Spent, moves, flips, the front's size.
+// Run. Numbers: 1 for Found, 2 for Stuck and 0 for Spent, moves, flips, the front's size.
 #[no_mangle]
 pub extern "C" fn peeriewick_run(
     map: &[u8],
@@ -49,6 +49,7 @@ pub extern "C" fn peeriewick_run(
     match ending {
         Ending::Refused(k) => k,
         Ending::Found => place::four(numbers, 1, moves, flips, 0),
+        Ending::Stuck => place::four(numbers, 2, moves, flips, 0),
         Ending::Spent(front) => place::four(numbers, 0, moves, flips, front as usize),
     }
 }

@@ -206,6 +206,7 @@ fn print_outcome(outcome: Outcome) {
             print_counts(b"SPENT", outcome.moves, outcome.flips);
             print_number(front as usize);
         }
+        Ending::Stuck => print_counts(b"STUCK", outcome.moves, outcome.flips),
         Ending::Refused(k) => print_refused(k),
     }
 }

@@ -2,7 +2,7 @@
 use Prim.Native.Nat.{ℕ, _+_, _-_, _/_, _%_, _<_, _≤_}
 use mathlib.Core.Path.{_≡_}
 use mathlib.Core.Logic.{_⊎_}
-use mathlib.Core.Bool.{Bool, cond}
+use mathlib.Core.Bool.{Bool, true, false, cond}
 use mathlib.Core.List.{List, _∷_, _++_, map}
 use lib.ListN.{length, take, drop, replicate}
 use lib.Dec.{eqb, leb}
@@ -12,7 +12,7 @@ use Rattle.circuit.specs.Run.{EndingValues}
 use Rattle.map.specs.Map.{mostGates, u16At, circuit}
 use Rattle.state.specs.State.{over}
 use Rattle.search.specs.Run.{RunEffect, endingValues, runEffect, Room}
-use Rattle.line.specs.Text.{AreBytes, foundWord, spentWord, refusedWord, blank, lineEnd, digit, decimal}
+use Rattle.line.specs.Text.{AreBytes, foundWord, spentWord, stuckWord, refusedWord, blank, lineEnd, digit, decimal}
 
 -- the bytes from place a on, up to before place b
 abbrev pub between : ℕ → ℕ → List ℕ → List ℕ
@@ -54,21 +54,28 @@ rowText m ans = map digit (rowOf (circuit m) ans)
 
 -- the word, and "moves flips"
 abbrev pub countsText : List ℕ → ℕ → ℕ → List ℕ
-countsText word moves flips = word ++ (decimal moves ++ (blank ++ (decimal flips ++ blank)))
+countsText word moves flips = word ++ (decimal moves ++ (blank ++ decimal flips))
 
 -- "prints a line: `FOUND moves flips row`, `SPENT moves flips front` or `REFUSED number`"
 abbrev pub foundLine : ℕ → ℕ → List ℕ → List ℕ → List ℕ
-foundLine moves flips m ans = countsText foundWord moves flips ++ (rowText m ans ++ lineEnd)
+foundLine moves flips m ans = countsText foundWord moves flips ++ (blank ++ (rowText m ans ++ lineEnd))
 
 abbrev pub spentLine : ℕ → ℕ → ℕ → List ℕ
-spentLine moves flips front = countsText spentWord moves flips ++ (decimal front ++ lineEnd)
+spentLine moves flips front = countsText spentWord moves flips ++ (blank ++ (decimal front ++ lineEnd))
+
+-- F-1: "the program prints `STUCK moves flips`"
+abbrev pub stuckLine : ℕ → ℕ → List ℕ
+stuckLine moves flips = countsText stuckWord moves flips ++ lineEnd
 
 abbrev pub refusedLine : ℕ → List ℕ
 refusedLine number = refusedWord ++ (decimal number ++ lineEnd)
 
 -- by what an ending tells, with moves, flips and the answer memory after the run
 abbrev pub report : EndingValues → ℕ → ℕ → List ℕ → List ℕ → List ℕ
-report e moves flips m ans = cond (e .accepted) (cond (e .found) (foundLine moves flips m ans) (spentLine moves flips (e .front))) (refusedLine (e .number))
+report e moves flips m ans =
+    cond (e .accepted)
+    (cond (e .found) (foundLine moves flips m ans) (cond (e .stuck) (stuckLine moves flips) (spentLine moves flips (e .front))))
+    (refusedLine (e .number))
 
 -- the line of a run's effect
 abbrev pub effectLine : List ℕ → RunEffect → List ℕ
@@ -87,6 +94,18 @@ lineOf x = cond (inputTest x) (runLine (mapPart x) (configurationPart x) (tapePa
 -- standard input with these three bodies: "three u16 lengths (map, configuration, tape) and the three bodies"
 abbrev pub inputOf : List ℕ → List ℕ → List ℕ → List ℕ
 inputOf m s tape = length m % 256 ∷ length m / 256 ∷ length s % 256 ∷ length s / 256 ∷ length tape % 256 ∷ length tape / 256 ∷ (m ++ (s ++ tape))
+
+-- The line of the run r on three bodies, by its ending, byte for byte: "`FOUND moves flips row`, `SPENT moves flips front` or `REFUSED number`", and, by F-1, `STUCK moves flips`
+pub record LineIs (m s tape : List ℕ) (r : RunEffect) : Type 0 where
+  pub found : r .found ≡ true
+      → runLine m s tape ≡ foundWord ++ (decimal (r .moves) ++ (blank ++ (decimal (r .flips) ++ (blank ++ (rowText m (r .answer) ++ lineEnd)))))
+  pub spent : r .accepted ≡ true → r .found ≡ false → r .stuck ≡ false
+      → runLine m s tape ≡ spentWord ++ (decimal (r .moves) ++ (blank ++ (decimal (r .flips) ++ (blank ++ (decimal (r .front) ++ lineEnd)))))
+  pub stuck : r .stuck ≡ true → runLine m s tape ≡ stuckWord ++ (decimal (r .moves) ++ (blank ++ (decimal (r .flips) ++ lineEnd)))
+  pub refused : r .accepted ≡ false → runLine m s tape ≡ refusedWord ++ (decimal (r .number) ++ lineEnd)
+
+abbrev pub LinesAre : Type 0
+LinesAre = (m s tape : List ℕ) → LineIs m s tape (runEffect m s tape lent lent)
 
 -- An input of exactly these bodies, at most 65,536 bytes in all, gives the line of the run on them.
 abbrev pub ExactInput : Type 0

@@ -10,12 +10,15 @@ use lib.Dec.{eqb, ltb}
 abbrev pub AreBytes : List ℕ → Type 0
 AreBytes bs = (b : ℕ) → In b bs → b < 256
 
--- "FOUND ", "SPENT " and "REFUSED ", a blank and a line end
+-- "FOUND ", "SPENT ", "STUCK " and "REFUSED ", a blank and a line end
 abbrev pub foundWord : List ℕ
 foundWord = 70 ∷ 79 ∷ 85 ∷ 78 ∷ 68 ∷ 32 ∷ []
 
 abbrev pub spentWord : List ℕ
 spentWord = 83 ∷ 80 ∷ 69 ∷ 78 ∷ 84 ∷ 32 ∷ []
+
+abbrev pub stuckWord : List ℕ
+stuckWord = 83 ∷ 84 ∷ 85 ∷ 67 ∷ 75 ∷ 32 ∷ []
 
 abbrev pub refusedWord : List ℕ
 refusedWord = 82 ∷ 69 ∷ 70 ∷ 85 ∷ 83 ∷ 69 ∷ 68 ∷ 32 ∷ []

@@ -10,7 +10,7 @@ ghost use Rattle.circuit.specs.Run.{told};
 ghost use Rattle.map.specs.Map.{mostGates, gateCount};
 ghost use Rattle.map.specs.Inner.{Shaped};
 ghost use Rattle.line.specs.Inner.{Wrote, inputText};
-ghost use Rattle.line.specs.Line.{lineRoom, rowText, countsText, foundLine, spentLine, refusedLine, report};
+ghost use Rattle.line.specs.Line.{lineRoom, rowText, countsText, foundLine, spentLine, stuckLine, refusedLine, report};
 
 // The digit of gate g's value, if it is an input.
 fn put_input(map: &[u8], g: usize, answer: &[u8], out: &mut [u8], at: usize) -> usize
@@ -47,8 +47,7 @@ fn put_counts(word: &[u8], moves: u16, flips: u32, out: &mut [u8]) -> usize
     let a = text::put_all(word, out, 0);
     let b = text::put_decimal(moves as u32, 10, out, a);
     let c = text::put(b' ', out, b);
-    let d = text::put_decimal(flips, 10, out, c);
-    text::put(b' ', out, d)
+    text::put_decimal(flips, 10, out, c)
 }
 
 // `FOUND moves flips row`
@@ -59,8 +58,9 @@ fn put_found(map: &[u8], moves: u16, flips: u32, answer: &[u8], out: &mut [u8]) 
 {
     let n = decode::read_contents(map);
     let a = put_counts(b"FOUND ", moves, flips, out);
-    let b = put_row(map, n.gates, answer, out, a);
-    text::put(b'\n', out, b)
+    let b = text::put(b' ', out, a);
+    let c = put_row(map, n.gates, answer, out, b);
+    text::put(b'\n', out, c)
 }
 
 // `SPENT moves flips front`
@@ -69,8 +69,18 @@ fn put_spent(moves: u16, flips: u32, front: u16, out: &mut [u8]) -> usize
     ensures { λ r. ⌜ Wrote 0 (spentLine moves flips front) (now (out .entry)) (now (out .exit)) r × (r ≤ lineRoom) ⌝ }
 {
     let a = put_counts(b"SPENT ", moves, flips, out);
-    let b = text::put_decimal(front as u32, 10, out, a);
-    text::put(b'\n', out, b)
+    let b = text::put(b' ', out, a);
+    let c = text::put_decimal(front as u32, 10, out, b);
+    text::put(b'\n', out, c)
+}
+
+// `STUCK moves flips`
+fn put_stuck(moves: u16, flips: u32, out: &mut [u8]) -> usize
+    requires { ⌜ lineRoom ≤ length (now out) ⌝ }
+    ensures { λ r. ⌜ Wrote 0 (stuckLine moves flips) (now (out .entry)) (now (out .exit)) r × (r ≤ lineRoom) ⌝ }
+{
+    let a = put_counts(b"STUCK ", moves, flips, out);
+    text::put(b'\n', out, a)
 }
 
 // `REFUSED number`
@@ -99,6 +109,7 @@ pub fn put_report(
     match ending {
         Ending::Found => put_found(map, moves, flips, answer, out),
         Ending::Spent(front) => put_spent(moves, flips, front, out),
+        Ending::Stuck => put_stuck(moves, flips, out),
         Ending::Refused(number) => put_refused(number, out),
     }
 }

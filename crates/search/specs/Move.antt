@@ -1,4 +1,4 @@
--- Document 01's Move, on bytes. What it means is proved in `demands`. Assumes nothing.
+-- Document 01's Move, on bytes, with request F-1. What it means is proved in `demands`. Assumes nothing.
 use Prim.Native.Nat.{ℕ, _≤_}
 use mathlib.Core.Path.{_≡_}
 use mathlib.Core.Logic.{_↔_}
@@ -11,7 +11,7 @@ use Rattle.circuit.specs.Survey.{front, survey}
 use Rattle.circuit.specs.Evaluate.{KeepsCodes, differ}
 use Rattle.circuit.specs.Run.{entryTurns, move}
 use Rattle.circuit.specs.Source001.{Front, TurnsExactly}
-use Rattle.circuit.specs.Promise.{NoFront, EntryDone}
+use Rattle.circuit.specs.Promise.{NoFront, StuckAt, EntryDoes}
 use Rattle.map.specs.Map.{gateCount, circuit}
 use Rattle.map.specs.Check.{firstFailed, mapTests, Test, MapNumber}
 use Rattle.state.specs.State.{over, HasRoom}
@@ -52,8 +52,8 @@ moveAnswer (Done t) s w = record { accepted = true; number = 0; gate = t .gate; 
 moveAnswer (Refused n) s w = record { accepted = false; number = n; gate = 0; turned = 0; configuration = s; work = w }
 
 -- what a call with this number gives and leaves: "Move does one entry and returns the drawn gate and how many values it turned (1 to 8). The lent
--- configuration is then the new one, and the first bytes of the work memory, one per gate, are its survey."; refused, it "leaves all lent memory
--- untouched; the other numbers of its answer .. are then 0"
+-- configuration is then the new one, and the first bytes of the work memory, one per gate, are its survey."; F-1: stuck, "with that entry undone .. and the work memory filled as
+-- after Spent. Move then returns the drawn gate and 0 turned", as `move` has it; refused, it "leaves all lent memory untouched; the other numbers of its answer .. are then 0"
 unfoldable pub moveBy : ℕ → List ℕ → List ℕ → List ℕ → List ℕ → MoveEffect
 moveBy n m s entry work =
     cond (eqb n 0)
@@ -72,16 +72,18 @@ moveEffect m s entry work = moveBy (firstFailed (mapTests m ++ moveTests m s ent
 
 -- ---- what it means
 
--- Of an accepted call: what its one entry does is `EntryDone`, document 01's move with the options of source document 001; the record and the two
--- memories say so. (What `survey` says of a configuration is 001's: `SurveyIs001`.)
+-- Of an accepted call: what its one entry does is `EntryDoes`, document 01's move with the options of source document 001, those left by F-1; the record and the two
+-- memories say so. Where it is stuck, nothing is turned, and only there. (What `survey` says of a configuration is 001's: `SurveyIs001`.)
 pub record MoveMeans (m s entry work : List ℕ) (r : MoveEffect) : Type 0 where
   pub start : IsStart m s
   pub read : EntryRead entry 0 (entryAt entry 0)
-  pub does : EntryDone (circuit m) s (entryAt entry 0)
+  pub does : EntryDoes (circuit m) s (entryAt entry 0)
   pub number : r .number ≡ 0
   pub gate : (r .gate ≡ move (circuit m) s (entryAt entry 0) .gate) × Front (circuit m) s (r .gate)
   pub turns : TurnsExactly (entryTurns (circuit m) s (entryAt entry 0)) s (r .configuration)
-  pub count : (r .turned ≡ differ (circuit m) s (r .configuration)) × ((1 ≤ r .turned) × (r .turned ≤ 8))
+  pub count : (r .turned ≡ differ (circuit m) s (r .configuration)) × (r .turned ≤ 8)
+  pub none : (r .turned ≡ 0) ↔ StuckAt (circuit m) s (entryAt entry 0)
+  pub undone : StuckAt (circuit m) s (entryAt entry 0) → r .configuration ≡ s
   pub keeps : KeepsCodes (circuit m) (r .configuration)
   pub surveyed : take (gateCount m) (r .work) ≡ survey (circuit m) (r .configuration)
   pub surplus : drop (gateCount m) (r .work) ≡ drop (gateCount m) work

@@ -1,4 +1,4 @@
--- Document 01's Run, on bytes. What it means is proved in `demands`. Assumes nothing.
+-- Document 01's Run, on bytes, with request F-1. What it means is proved in `demands`. Assumes nothing.
 use Prim.Native.Nat.{ℕ}
 use mathlib.Core.Path.{_≡_}
 use mathlib.Core.Logic.{_↔_}
@@ -8,7 +8,7 @@ use lib.ListN.{length}
 use lib.Dec.{eqb, leb}
 use Rattle.folds.specs.Folds.{_and_}
 use Rattle.circuit.specs.declared.Ending.{Ending}
-use Rattle.circuit.specs.declared.Ending.the-variants.{Found, Spent, Refused}
+use Rattle.circuit.specs.declared.Ending.the-variants.{Found, Spent, Stuck, Refused}
 use Rattle.circuit.specs.declared.Outcome.{Outcome}
 use Rattle.circuit.specs.Circuit.{Circuit}
 use Rattle.circuit.specs.Survey.{survey}
@@ -32,11 +32,12 @@ runTests m s tape work ans = startTests m s ++ tapeTests m tape work ans
 -- ---- Run
 
 -- What Run does: "A run's answer is one record: its ending, its moves and its flips", the ending by its number and values (whether the call is accepted, the number that
--- refuses it, whether it found, the front's size that Spent carries), and the three lent memories after the call
+-- refuses it, whether it is Found, whether it is Stuck, the front's size that Spent carries), and the three lent memories after the call
 pub record RunEffect : Type 0 where
   pub accepted : Bool
   pub number : ℕ
   pub found : Bool
+  pub stuck : Bool
   pub front : ℕ
   pub moves : ℕ
   pub flips : ℕ
@@ -46,7 +47,7 @@ pub record RunEffect : Type 0 where
 
 -- what its ending tells
 abbrev pub endingValues : RunEffect → EndingValues
-endingValues r = record { accepted = r .accepted; number = r .number; found = r .found; front = r .front }
+endingValues r = record { accepted = r .accepted; number = r .number; found = r .found; stuck = r .stuck; front = r .front }
 
 -- of the record that is returned, beside the memories: `told` has the number and values of each case of its ending
 unfoldable pub runAnswer : Outcome → List ℕ → List ℕ → List ℕ → RunEffect
@@ -54,6 +55,7 @@ runAnswer o s w a = record {
   accepted = told (o .ending) .accepted;
   number = told (o .ending) .number;
   found = told (o .ending) .found;
+  stuck = told (o .ending) .stuck;
   front = told (o .ending) .front;
   moves = o .moves;
   flips = o .flips;
@@ -62,13 +64,16 @@ runAnswer o s w a = record {
   answer = a;
 }
 
--- "Found writes the answer memory .. Spent leaves it untouched.": the answer memory after an ending, where x is what Found writes
+-- "Found writes the answer memory .. Spent leaves it untouched.", and Stuck leaves "answer memory untouched" too (F-1): the answer memory after an ending, where x is what
+-- Found writes
 abbrev pub answerMemory : Ending → List ℕ → List ℕ → List ℕ
 answerMemory Found x ans = over x ans
 answerMemory (Spent f) x ans = ans
+answerMemory Stuck x ans = ans
 answerMemory (Refused n) x ans = ans
 
--- "After either ending the configuration is the last one and the first bytes of the work memory, one per gate, are its survey."
+-- "After either ending the configuration is the last one and the first bytes of the work memory, one per gate, are its survey." F-1: where it is Stuck, "the work memory
+-- filled as after Spent"
 unfoldable pub runEnded : Circuit → RunResult → List ℕ → List ℕ → RunEffect
 runEnded c r work ans = runAnswer (r .outcome) (r .last) (over (survey c (r .last)) work) (answerMemory (r .outcome .ending) (answer c (r .last)) ans)
 
@@ -123,7 +128,7 @@ RunNumber = (m s tape work ans : List ℕ)
 -- Refused, it gives a number, "leaves all lent memory untouched; the other numbers of its answer .. are then 0".
 pub record RunRefused (s work ans : List ℕ) (r : RunEffect) : Type 0 where
   pub numbered : ¬ (r .number ≡ 0)
-  pub not-found : r .found ≡ false
+  pub no-ending : (r .found ≡ false) × (r .stuck ≡ false)
   pub zeros : (r .moves ≡ 0) × ((r .flips ≡ 0) × (r .front ≡ 0))
   pub untouched : (r .configuration ≡ s) × ((r .work ≡ work) × (r .answer ≡ ans))
 

@@ -26,9 +26,17 @@ returns-3 : tie.Need-returns-3
 unfolding runAnswer
 returns-3 c =
     let w : tie.After-four2 = search in
+    let e : tie.After-enum-told2 = search in
+    let r : tie.After-run = search in
+    rw (← r .run .ensures, e .enum-told2 .given .1, w .four2 .ensures .0, w .four2 .ensures .1)
+
+returns-4 : tie.Need-returns-4
+unfolding runAnswer
+returns-4 c =
+    let w : tie.After-four3 = search in
     let e : tie.After-ending2 = search in
     let r : tie.After-run = search in
-    rw (← r .run .ensures, e .ending2 .given .1, w .four2 .ensures .0, w .four2 .ensures .1)
+    rw (← r .run .ensures, e .ending2 .given .1, w .four3 .ensures .0, w .four3 .ensures .1)
 
 pub peeriewick-run-spec : {M : Type 1} → statement M
 peeriewick-run-spec =
@@ -38,6 +46,8 @@ peeriewick-run-spec =
     (λ c. search needs)
     (λ c. search needs)
     (λ c. search needs)
+    (λ c. search needs)
+    (λ c κs. search needs)
     (λ c. search needs)
     (λ c κs. search needs)
     (λ c. search needs)
@@ -56,4 +66,9 @@ peeriewick-run-spec =
     (λ c. search needs)
     (λ c. search needs)
     (λ c. search needs)
-    returns-3)
+    returns-3
+    (λ c. search needs)
+    (λ c. search needs)
+    (λ c. search needs)
+    (λ c. search needs)
+    returns-4)

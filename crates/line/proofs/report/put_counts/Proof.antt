@@ -11,20 +11,17 @@ use Rattle.line.proofs.text.put_decimal.Reads as put-decimal-reads
 
 returns : tie.Need-returns
 returns c =
-    let e : tie.After-put2 = search in
     let f : tie.After-put-decimal2 = search in
     let b : tie.After-put = search in
     let m : tie.After-put-decimal = search in
     let w : tie.After-put-all = search in
-    let flips = wrote-then _ _ _ _ _ _ _ _ (f .put-decimal2 .ensures .0) (e .put2 .ensures) in
-    let moves = wrote-then _ _ _ _ _ _ _ _ (m .put-decimal .ensures .0) (wrote-then _ _ _ _ _ _ _ _ (b .put .ensures) flips) in
+    let moves = wrote-then _ _ _ _ _ _ _ _ (m .put-decimal .ensures .0) (wrote-then _ _ _ _ _ _ _ _ (b .put .ensures) (f .put-decimal2 .ensures .0)) in
     (wrote-then _ _ _ _ _ _ _ _ (w .put-all .ensures) moves, omega arith)
 
 pub put-counts-spec : {M : Type 1} → statement M
 put-counts-spec =
     tie.close
     (tie.spec
-    (λ c κs. search needs)
     (λ c κs. search needs)
     (λ c κs. search needs)
     (λ c κs. search needs)

@@ -12,11 +12,12 @@ use Rattle.map.proofs.decode.read_contents.Reads as read-contents-reads
 
 returns : tie.Need-returns
 returns c =
-    let p : tie.After-put = search in
+    let p : tie.After-put2 = search in
     let r : tie.After-put-row = search in
+    let b : tie.After-put = search in
     let w : tie.After-put-counts = search in
     let s : tie.Start = search in
-    (wrote-then _ _ _ _ _ _ _ _ (w .put-counts .ensures .0) (wrote-then _ _ _ _ _ _ _ _ (r .put-row .ensures .0) (p .put .ensures)), omega (arith, s .pre .0 .few))
+    (wrote-then _ _ _ _ _ _ _ _ (w .put-counts .ensures .0) (wrote-then _ _ _ _ _ _ _ _ (b .put .ensures) (wrote-then _ _ _ _ _ _ _ _ (r .put-row .ensures .0) (p .put2 .ensures))), omega (arith, s .pre .0 .few))
 
 pub put-found-spec : {M : Type 1} → statement M
 put-found-spec =
@@ -24,6 +25,7 @@ put-found-spec =
     (tie.spec
     (λ c κs. search needs)
     (λ c. search needs)
+    (λ c κs. search needs)
     (λ c κs. search needs)
     (λ c κs. search needs)
     (λ c κs. search needs)

@@ -6,6 +6,7 @@ use Rattle.line.proofs.report.put_report.Lts as lts
 use Rattle.line.proofs.report.put_found.Reads as put-found-reads
 use Rattle.line.proofs.report.put_refused.Reads as put-refused-reads
 use Rattle.line.proofs.report.put_spent.Reads as put-spent-reads
+use Rattle.line.proofs.report.put_stuck.Reads as put-stuck-reads
 
 put-found-requires : tie.Need-put-found-requires
 put-found-requires c κs =
@@ -26,6 +27,12 @@ returns-2 c =
 
 returns-3 : tie.Need-returns-3
 returns-3 c =
+    let p : tie.After-put-stuck = search in
+    let e : tie.After-enum-told2 = search in
+    rw (e .enum-told2 .given .1) (p .put-stuck .ensures)
+
+returns-4 : tie.Need-returns-4
+returns-4 c =
     let p : tie.After-put-refused = search in
     let e : tie.After-ending2 = search in
     rw (e .ending2 .given .1) (p .put-refused .ensures)
@@ -41,8 +48,12 @@ put-report-spec =
     (λ c. search needs)
     (λ c κs. search needs)
     (λ c. search needs)
+    (λ c κs. search needs)
+    (λ c. search needs)
     returns
     (λ c. search needs)
     returns-2
     (λ c. search needs)
-    returns-3)
+    returns-3
+    (λ c. search needs)
+    returns-4)

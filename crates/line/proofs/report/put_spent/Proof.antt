@@ -11,16 +11,18 @@ use Rattle.line.proofs.text.put_decimal.Reads as put-decimal-reads
 
 returns : tie.Need-returns
 returns c =
-    let p : tie.After-put = search in
+    let p : tie.After-put2 = search in
     let d : tie.After-put-decimal = search in
+    let b : tie.After-put = search in
     let w : tie.After-put-counts = search in
-    (wrote-then _ _ _ _ _ _ _ _ (w .put-counts .ensures .0) (wrote-then _ _ _ _ _ _ _ _ (d .put-decimal .ensures .0) (p .put .ensures)), omega arith)
+    (wrote-then _ _ _ _ _ _ _ _ (w .put-counts .ensures .0) (wrote-then _ _ _ _ _ _ _ _ (b .put .ensures) (wrote-then _ _ _ _ _ _ _ _ (d .put-decimal .ensures .0) (p .put2 .ensures))), omega arith)
 
 pub put-spent-spec : {M : Type 1} → statement M
 put-spent-spec =
     tie.close
     (tie.spec
     (λ c. search needs)
+    (λ c κs. search needs)
     (λ c κs. search needs)
     (λ c κs. search needs)
     (λ c κs. search needs)
