@@ -10,18 +10,18 @@ use lib.Dec.{eqb}
 use lib.ListN.{length, getD, take, replicate, length-map, length-replicate, List·getD-append}
 use Rattle.folds.proofs.Tests.{which}
 use Rattle.circuit.specs.declared.Ending.{Ending}
-use Rattle.circuit.specs.declared.Ending.the-variants.{Found, Spent, Refused}
+use Rattle.circuit.specs.declared.Ending.the-variants.{Found, Spent, Stuck, Refused}
 use Rattle.circuit.specs.declared.Entry.{Entry}
 use Rattle.circuit.specs.Circuit.{WellFormed}
 use Rattle.circuit.specs.Evaluate.{Satisfying, differ}
 use Rattle.circuit.specs.Survey.{survey}
 use Rattle.circuit.specs.Run.{RunResult, run, answer, EndingValues, told}
-use Rattle.circuit.specs.Promise.{NoFront, RunPromised, FinishingTape}
+use Rattle.circuit.specs.Promise.{NoFront, StuckAt, config, RunPromised, FinishingTape}
 use Rattle.circuit.proofs.Values.{bit-same}
 use Rattle.circuit.proofs.Evaluate.{row-is, row-first, evaluate-again}
 use Rattle.circuit.proofs.Survey.{differ-is}
 use Rattle.circuit.proofs.Found.{answer-is}
-use Rattle.circuit.proofs.Trace.{demand2-on-circuits}
+use Rattle.circuit.proofs.Trace.{found-ends, stuck-ends, demand2-on-circuits}
 use Rattle.circuit.proofs.Turns.{differ-most}
 use Rattle.circuit.proofs.Finish.{demand3-on-circuits}
 use Rattle.map.specs.Map.{mostGates, gateCount, codeCount, codeGate, codeValue, circuit}
@@ -58,11 +58,13 @@ shown m k a rest w r h =
 answered : (e : Ending) (x ans : List ℕ) → told e .found ≡ true → answerMemory e x ans ≡ over x ans
 answered Found x ans f = refl
 answered (Spent k) x ans f = absurd (false≢true f)
+answered Stuck x ans f = absurd (false≢true f)
 answered (Refused k) x ans f = absurd (false≢true f)
 
 not-answered : (e : Ending) (x ans : List ℕ) → told e .found ≡ false → answerMemory e x ans ≡ ans
 not-answered Found x ans n = absurd (true≢false n)
 not-answered (Spent f) x ans n = refl
+not-answered Stuck x ans n = refl
 not-answered (Refused k) x ans n = refl
 
 module _ (m s tape work ans : List ℕ) (a : Runnable m s tape work ans) where
@@ -80,7 +82,7 @@ module _ (m s tape work ans : List ℕ) (a : Runnable m s tape work ans) where
       let w = answer-is (circuit m) ok (end .last) .0 in
       let l : length (answer (circuit m) (end .last)) ≡ gateCount m = w .configuration .long in
       let first = over-first (answer (circuit m) (end .last)) ans (gateCount m) l in
-      let no-front-left : NoFront (circuit m) (end .last) = rw (promised .last-is) (promised .at-found f .1) in
+      let no-front-left : NoFront (circuit m) (end .last) = rw (promised .last-is) (found-ends (circuit m) (entries tape) (config (circuit m) s (entries tape)) (end .outcome .moves) (told (end .outcome .ending)) (promised .ends) f .empty) in
       record {
         answered = rw first w;
         marked = rw first (mark-does m (answer (circuit m) (end .last)) .1 (a .start .accepted, promised .shows f));
@@ -92,11 +94,23 @@ module _ (m s tape work ans : List ℕ) (a : Runnable m s tape work ans) where
         long = over-long (answer (circuit m) (end .last)) ans (gateCount m) l (a .room .answer-room);
       }
 
+  sticks : told (end .outcome .ending) .stuck ≡ true → (d : Entry)
+      → (end .outcome .moves < length (entries tape)) × StuckAt (circuit m) (end .last) (getD (entries tape) (end .outcome .moves) d)
+  sticks z d =
+      let w = stuck-ends (circuit m) (entries tape) (config (circuit m) s (entries tape)) (end .outcome .moves) (told (end .outcome .ending)) (promised .ends) z in
+      (w .within, rw (promised .last-is) (w .sticks d))
+
+  -- the front that an ending carries
+  front-carried : told (end .outcome .ending) .front ≤ gateCount m
+  front-carried = rw (ap (λ (t : EndingValues). t .front) (run-ends (circuit m) s (entries tape))) (elim (which (told (end .outcome .ending) .stuck)) [
+    | inl q ↦ rw q (omega arith)
+    | inr q ↦ rw q (front-few (circuit m) (end .last))
+  ])
+
   bounds : (end .outcome .moves ≤ mostEntries) × ((end .outcome .flips ≤ 8 * end .outcome .moves) × (told (end .outcome .ending) .front ≤ mostGates))
   bounds =
       let (i, j) = run-few (circuit m) ok s (a .start .keeps) (entries tape) in
-      let f = ap (λ (t : EndingValues). t .front) (run-ends (circuit m) s (entries tape)) in
-      (omega (arith, i, entries-length tape (a .tape-length .0), a .tape-length), (j, omega (arith, f, front-few (circuit m) (end .last), facts m (a .start .accepted) .sound .placed .shaped .few)))
+      (omega (arith, i, entries-length tape (a .tape-length .0), a .tape-length), (j, omega (arith, front-carried, facts m (a .start .accepted) .sound .placed .shaped .few)))
 
   means : RunMeans m s tape work ans (runEnded (circuit m) end work ans)
   unfolding runEnded runAnswer
@@ -108,6 +122,7 @@ module _ (m s tape work ans : List ℕ) (a : Runnable m s tape work ans) where
         entry-is = λ d i h. rw (entry-is tape (a .tape-length .0) d i h) (entry-read tape (4 * i) (a .kinds i h));
         promised = promised;
         ending = run-ends (circuit m) s (entries tape);
+        stuck = sticks;
         bounds = bounds;
         surveyed = over-first (survey (circuit m) (end .last)) work (gateCount m) l;
         work-surplus = over-rest (survey (circuit m) (end .last)) work (gateCount m) l;
@@ -116,7 +131,7 @@ module _ (m s tape work ans : List ℕ) (a : Runnable m s tape work ans) where
         not-found = not-answered (end .outcome .ending) (answer (circuit m) (end .last)) ans;
       }
 
-run-does : RunDoes
+pub run-does : RunDoes
 run-does m s tape work ans e = let n = none m s tape work ans e in rw (written m s tape work ans n) (means m s tape work ans (runnable m s tape work ans n))
 
 -- ---- all memories: the tests of two calls are the same, and what their number gives too

@@ -4,4 +4,5 @@ pub mod Runs
 pub mod Demands
 pub mod Lines
 pub mod Demand1
+pub mod InnerCodes
 pub mod Table

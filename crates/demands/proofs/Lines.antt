@@ -3,7 +3,7 @@ use Prim.Native.Nat.{ℕ, zero, suc, _+_, _-_, _*_, _/_, _%_, _^_, _≤_, _<_}
 use mathlib.Core.Path.{_≡_, refl, sym, ap, _∙_}
 use mathlib.Core.Bool.{true, false, false≢true}
 use mathlib.Core.Logic.{_⊎_, inl, inr}
-use mathlib.Core.List.{List, [], _∷_, _++_}
+use mathlib.Core.List.{List, [], _∷_, _++_, append-assoc}
 use mathlib.Core.List.{List·Memᴰ as In, List·Memᴰ·head as here, List·Memᴰ·tail as there, List·Memᴰ·cases-cons as cases, List·Memᴰ·not-nil as nowhere, List·Memᴰ·append-cases as append-cases}
 use native.Mathlib.Omega.{arith}
 use native.Mathlib.Nat.{pow-suc}
@@ -23,9 +23,11 @@ use Rattle.map.specs.Inner.{Shaped}
 use Rattle.map.proofs.Accepted.{facts}
 use Rattle.map.proofs.Answers.{behind-refused}
 use Rattle.search.specs.Run.{runTests, RunEffect, endingValues, runAnswer, runBy, runEffect, Room}
+use Rattle.search.proofs.Endings.{stuck-alone}
+use Rattle.demands.proofs.Runs.{found-accepted, stuck-accepted}
 use Rattle.demands.proofs.Demands.{same-for-all-memories}
 use Rattle.line.specs.Text.{AreBytes, decimalIn, decimal, readOn, readDecimal, DecimalReads}
-use Rattle.line.specs.Line.{mostInput, configurationPlace, tapePlace, mapPart, configurationPart, tapePart, inputTest, lent, rowText, report, effectLine, runLine, lineOf, inputOf, ExactInput, three-bodies, refused-0, EveryInput, SameLineForAllMemories, lineRoom, LineFits}
+use Rattle.line.specs.Line.{mostInput, configurationPlace, tapePlace, mapPart, configurationPart, tapePart, inputTest, lent, rowText, report, effectLine, runLine, lineOf, inputOf, LinesAre, ExactInput, three-bodies, refused-0, EveryInput, SameLineForAllMemories, lineRoom, LineFits}
 use Rattle.line.proofs.Rows.{same-row}
 use Rattle.line.proofs.Lines.{found-shaped, Whole, whole, line-refused, line-runs, map-part, configuration-part, tape-part, parts-whole}
 
@@ -129,6 +131,18 @@ same-line-for-all-memories m s tape work ans r = elim (which (eqb (verdict m) 0)
   | inr q ↦ same-refused m s tape work ans (eqb-false _ _ q)
 ]
 
+-- ---- the line, by the ending
+
+pub lines-are : LinesAre
+lines-are m s tape =
+    let r = runEffect m s tape lent lent in
+    record {
+      found = λ f. rw (found-accepted m s tape lent lent f, f) (simp append-assoc);
+      spent = λ a f z. rw (a, f, z) (simp append-assoc);
+      stuck = λ z. rw (stuck-accepted m s tape lent lent z, stuck-alone m s tape lent lent z, z) (simp append-assoc);
+      refused = λ a. rw a;
+    }
+
 -- ---- how long a line is
 
 decimal-length : (k n : ℕ) → length (decimalIn k n) ≤ k
@@ -147,7 +161,10 @@ report-length : (e : EndingValues) (moves flips : ℕ) (m ans : List ℕ) → (e
 report-length e moves flips m ans s = elim (which (e .accepted)) [
   | inl q ↦ elim (which (e .found)) [
     | inl f ↦ rw (q, f) (simp length-append (omega (arith, decimal-length 10 moves, decimal-length 10 flips, row-length m ans, s f .few)))
-    | inr f ↦ rw (q, f) (simp length-append (omega (arith, decimal-length 10 moves, decimal-length 10 flips, decimal-length 10 (e .front))))
+    | inr f ↦ elim (which (e .stuck)) [
+      | inl z ↦ rw (q, f, z) (simp length-append (omega (arith, decimal-length 10 moves, decimal-length 10 flips)))
+      | inr z ↦ rw (q, f, z) (simp length-append (omega (arith, decimal-length 10 moves, decimal-length 10 flips, decimal-length 10 (e .front))))
+    ]
   ]
   | inr q ↦ rw q (simp length-append (omega (arith, decimal-length 10 (e .number))))
 ]
@@ -164,12 +181,12 @@ line-fits x = elim (which (inputTest x)) [
 
 -- ---- its numbers, by induction on their places
 
-read-append : (n b : ℕ) (bs : List ℕ) → readOn n (bs ++ (b ∷ [])) ≡ 10 * readOn n bs + (b - 48)
+pub read-append : (n b : ℕ) (bs : List ℕ) → readOn n (bs ++ (b ∷ [])) ≡ 10 * readOn n bs + (b - 48)
 unfolding readOn
 read-append n b [] = refl
 read-append n b (c ∷ bs) = read-append (10 * n + (c - 48)) b bs
 
-reads-back : (k n : ℕ) → n < 10 ^ k → readDecimal (decimalIn k n) ≡ n
+pub reads-back : (k n : ℕ) → n < 10 ^ k → readDecimal (decimalIn k n) ≡ n
 unfolding decimalIn readOn
 reads-back zero n h = omega arith
 reads-back (suc k) n h = elim (which (ltb n 10)) [

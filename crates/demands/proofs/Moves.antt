@@ -15,7 +15,7 @@ use Rattle.circuit.specs.Survey.{front, survey}
 use Rattle.circuit.specs.Run.{move}
 use Rattle.circuit.specs.Promise.{NoFront}
 use Rattle.circuit.proofs.Survey.{survey-is}
-use Rattle.circuit.proofs.Moves.{no-front, some-front, entry-done}
+use Rattle.circuit.proofs.Moves.{no-front, some-front, entry-does}
 use Rattle.map.specs.Map.{gateCount, circuit}
 use Rattle.map.specs.Check.{firstFailed, mapTests}
 use Rattle.map.specs.Inner.{IsMap}
@@ -47,7 +47,7 @@ module _ (m s entry work : List ℕ) where
   abbrev number : ℕ
   number = firstFailed (mapTests m ++ moveTests m s entry work)
 
-  none : moveEffect m s entry work .accepted ≡ true → number ≡ 0
+  pub none : moveEffect m s entry work .accepted ≡ true → number ≡ 0
   unfolding moveEffect moveBy
   none e = elim (which (eqb number 0)) [
     | inl q ↦ eqb-true number 0 q
@@ -75,7 +75,7 @@ module _ (m s entry work : List ℕ) where
   of-kind l h = all-of (λ i. leb (getD entry (4 * i + 2) 0) 2) (length entry / 4) (λ i b. (let z : i ≡ 0 = omega arith in rw z (le-leb _ _ h)))
 
   -- what each test says
-  movable : number ≡ 0 → Movable m s entry work
+  pub movable : number ≡ 0 → Movable m s entry work
   unfolding frontTest
   movable n =
       let (v, t) = behind m (moveTests m s entry work) n in
@@ -95,7 +95,7 @@ module _ (m s entry work : List ℕ) where
       ∙ past _ _ _ (of-front m s (facts m (a .start .accepted)) (a .some-front))
       ∙ no-test
 
-  written : number ≡ 0 → moveEffect m s entry work ≡ record {
+  pub written : number ≡ 0 → moveEffect m s entry work ≡ record {
     accepted = true;
     number = 0;
     gate = move (circuit m) s (entryAt entry 0) .gate;
@@ -112,7 +112,7 @@ move-does m s entry work e =
     let a = movable m s entry work n in
     let k = facts m (a .start .accepted) in
     let ok = well-formed m k in
-    let d = entry-done (circuit m) ok s (a .start .keeps) (not-true _ (of-front m s k (a .some-front))) (entryAt entry 0) in
+    let d = entry-does (circuit m) ok s (not-true _ (of-front m s k (a .some-front))) (entryAt entry 0) (a .start .keeps) in
     let l : length (survey (circuit m) (move (circuit m) s (entryAt entry 0) .next)) ≡ gateCount m = survey-is (circuit m) ok (move (circuit m) s (entryAt entry 0) .next) .long in
     rw (written m s entry work n) (record {
       start = a .start;
@@ -122,6 +122,8 @@ move-does m s entry work e =
       gate = (refl, d .in-front);
       turns = d .turns;
       count = (sym (d .differs), d .few);
+      none = d .none;
+      undone = d .undone;
       keeps = d .keeps;
       surveyed = over-first (survey (circuit m) (move (circuit m) s (entryAt entry 0) .next)) work (gateCount m) l;
       surplus = over-rest (survey (circuit m) (move (circuit m) s (entryAt entry 0) .next)) work (gateCount m) l;

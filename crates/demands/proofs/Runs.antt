@@ -15,10 +15,10 @@ use Rattle.circuit.specs.Tools.{upTo, isEmpty}
 use Rattle.circuit.specs.Circuit.{Circuit, WellFormed}
 use Rattle.circuit.specs.Evaluate.{KeepsCodes}
 use Rattle.circuit.specs.Survey.{inFront, front, frontSize}
-use Rattle.circuit.specs.Run.{move, run, EndingValues}
+use Rattle.circuit.specs.Run.{isStuck, entryChosen, move, run, EndingValues}
 use Rattle.circuit.proofs.Lists.{select-length, length-upTo}
-use Rattle.circuit.proofs.Moves.{entry-done}
-use Rattle.circuit.proofs.Trace.{run-found, run-spent, run-step}
+use Rattle.circuit.proofs.Moves.{entry-does}
+use Rattle.circuit.proofs.Trace.{run-found, run-spent, run-sticks, run-step}
 use Rattle.map.specs.Map.{gateCount, circuit}
 use Rattle.map.specs.Check.{firstFailed, mapTests}
 use Rattle.map.proofs.Laws.{past, no-test}
@@ -66,6 +66,13 @@ module _ (m s tape work ans : List ℕ) where
   pub found-accepted : runEffect m s tape work ans .found ≡ true → runEffect m s tape work ans .accepted ≡ true
   unfolding runEffect runBy runEnded runAnswer
   found-accepted f = elim (which (eqb number 0)) [
+    | inl q ↦ rw q (ap (λ (t : EndingValues). t .accepted) (run-ends (circuit m) s (entries tape)))
+    | inr q ↦ absurd (false≢true (rw q at f))
+  ]
+
+  pub stuck-accepted : runEffect m s tape work ans .stuck ≡ true → runEffect m s tape work ans .accepted ≡ true
+  unfolding runEffect runBy runEnded runAnswer
+  stuck-accepted f = elim (which (eqb number 0)) [
     | inl q ↦ rw q (ap (λ (t : EndingValues). t .accepted) (run-ends (circuit m) s (entries tape)))
     | inr q ↦ absurd (false≢true (rw q at f))
   ]
@@ -126,7 +133,7 @@ pub run-refuses : RunRefuses
 unfolding runEffect runBy runAnswer
 run-refuses m s tape work ans e = elim (which (eqb (number m s tape work ans) 0)) [
   | inl q ↦ absurd (true≢false (sym (accepted m s tape work ans (eqb-true (number m s tape work ans) 0 q)) ∙ e))
-  | inr q ↦ rw q (record { numbered = eqb-false (number m s tape work ans) 0 q; not-found = refl; zeros = (refl, (refl, refl)); untouched = (refl, (refl, refl)) })
+  | inr q ↦ rw q (record { numbered = eqb-false (number m s tape work ans) 0 q; no-ending = (refl, refl); zeros = (refl, (refl, refl)); untouched = (refl, (refl, refl)) })
 ]
 
 -- ---- how far a run may go
@@ -139,9 +146,12 @@ run-few c ok s k [] = elim (which (isEmpty (front c s))) [
 ]
 run-few c ok s k (e ∷ es) = elim (which (isEmpty (front c s))) [
   | inl q ↦ rw (run-found c s (e ∷ es) q) (omega arith, omega arith)
-  | inr q ↦ (let d = entry-done c ok s k q e in
-      let (i, j) = run-few c ok (move c s e .next) (d .keeps) es in
-      rw (run-step c s e es q) (omega (arith, i), omega (arith, j, d .few)))
+  | inr q ↦ elim (which (isStuck (entryChosen c s e))) [
+    | inl z ↦ rw (run-sticks c s e es q z) (omega arith, omega arith)
+    | inr z ↦ (let d = entry-does c ok s q e k in
+        let (i, j) = run-few c ok (move c s e .next) (d .keeps) es in
+        rw (run-step c s e es q z) (omega (arith, i), omega (arith, j, d .few)))
+  ]
 ]
 
 pub front-few : (c : Circuit) (s : List ℕ) → frontSize c s ≤ c .gates

@@ -5,11 +5,11 @@ use Rattle.folds.specs.Folds.{_and_, _or_, allBelow, descend}
 use Rattle.circuit.specs.Circuit.{justified}
 use Rattle.circuit.specs.Evaluate.{inputsBefore, rowOf, values, mark}
 use Rattle.circuit.specs.Survey.{spread, reasons, cone, inFront, front, interest, survey, frontSize, interestSize}
-use Rattle.circuit.specs.Run.{drawn, downOptions, optionAt, greedyOptions, chosen, entryTurns, run, answer}
+use Rattle.circuit.specs.Run.{drawn, downOptions, optionsLeft, greedyOptions, chosen, entryChosen, entryTurns, run, answer}
 use Rattle.circuit.specs.Bench.{adder, circuitP9, circuitP10, circuitP11}
 use Rattle.kinds.specs.Kinds.{kindFits}
 use Rattle.map.specs.Map.{u16At, fanInsBefore, codeAmong, kidsOf}
-use Rattle.map.specs.Check.{offsetsTest, kindTest, positionTest, positionsTest, childTest, childrenTest, codeTest, freeTest, firstFailed, contentsTests, bodiesTests, mapTests}
+use Rattle.map.specs.Check.{offsetsTest, kindTest, positionTest, positionsTest, childTest, childrenTest, codeTest, firstFailed, contentsTests, bodiesTests, mapTests}
 use Rattle.state.specs.State.{bitsTest, configurationTests, markBy, markEffect}
 use Rattle.survey.specs.Survey.{codesShownTest, startTests, surveyTests, surveyBy, surveyEffect}
 use Rattle.tape.specs.Tape.{entryAt, entriesFrom, entries, tapeLengthTest, entryKindsTest}
@@ -21,11 +21,11 @@ use Rattle.demands.specs.Table.{adderBytes, mapP9, mapP10, mapP11, P1ToP
 
 -- the definitions that the examples compute with, under one name for each part
 on-circuits : ℕ
-unfolding _and_ _or_ allBelow descend justified inputsBefore rowOf values mark spread reasons cone inFront front interest survey frontSize interestSize drawn downOptions optionAt greedyOptions chosen entryTurns run answer adder circuitP9 circuitP10 circuitP11
+unfolding _and_ _or_ allBelow descend justified inputsBefore rowOf values mark spread reasons cone inFront front interest survey frontSize interestSize drawn downOptions optionsLeft greedyOptions chosen entryChosen entryTurns run answer adder circuitP9 circuitP10 circuitP11
 on-circuits = 0
 
 on-maps : ℕ
-unfolding kindFits u16At fanInsBefore codeAmong kidsOf offsetsTest kindTest positionTest positionsTest childTest childrenTest codeTest freeTest firstFailed contentsTests bodiesTests mapTests adderBytes mapP9 mapP10 mapP11
+unfolding kindFits u16At fanInsBefore codeAmong kidsOf offsetsTest kindTest positionTest positionsTest childTest childrenTest codeTest firstFailed contentsTests bodiesTests mapTests adderBytes mapP9 mapP10 mapP11
 on-maps = 0
 
 in-calls : ℕ

@@ -1,7 +1,7 @@
 -- Document 00's demands, on bytes: about the definitions that the calls' contracts cite. Demands 2 and 3 speak of `runEffect`, Run's. Assumes nothing.
 use Prim.Native.Nat.{ℕ, _*_, _/_, _%_, _≤_, _<_}
 use mathlib.Core.Path.{_≡_}
-use mathlib.Core.Bool.{true, false}
+use mathlib.Core.Bool.{true, false, cond}
 use mathlib.Core.List.{List, [], _∷_, map, List·Memᴰ as In}
 use lib.ListN.{length, getD, take, drop}
 use Rattle.circuit.specs.declared.Entry.{Entry}
@@ -9,7 +9,7 @@ use Rattle.circuit.specs.Evaluate.{Row, rowOf, evaluate, differ}
 use Rattle.circuit.specs.Tools.{isEmpty}
 use Rattle.circuit.specs.Survey.{front, survey, frontSize}
 use Rattle.circuit.specs.Source001.{DifferIs}
-use Rattle.circuit.specs.Promise.{FoundAnswer, FreeFrom, config, Promised, Demand2OnCircuits}
+use Rattle.circuit.specs.Promise.{FoundAnswer, FreeFrom, StuckAt, config, Promised, Demand2OnCircuits}
 use Rattle.map.specs.Map.{mostGates, gateCount, codeCount, codeGate, codeValue, circuit}
 use Rattle.map.specs.Check.{MapAccepts, CheckNumber, CheckAccepts, CheckRefuses, CheckDoes, AcceptedMaps}
 use Rattle.map.specs.Children.{ChildrenDoes}
@@ -24,7 +24,7 @@ use Rattle.line.specs.Line.{EveryInput, CutInput}
 -- ---- demand 1
 
 -- "A refused call gives the number that document 01 names and leaves all lent bytes untouched; an accepted one leaves what document 01 states."
--- Of each call its number, by document 01's conditions in their order; which inputs it accepts; what a refused call gives and leaves beside the
+-- Of each call its number, by document 01's conditions in their order, but for 8, which F-1 took back; which inputs it accepts; what a refused call gives and leaves beside the
 -- number; and what an accepted one does. What Survey, Move and Run do is in demand 2. Of the program which inputs it runs, which it refuses with 0,
 -- and that the bytes that it reads are enough. (The demand's first sentence, on the ends of memory and the end of calls, Rattle asks of every function.)
 pub record Demand1 : Type 0 where
@@ -74,7 +74,8 @@ pub record FoundWrites (m last ans after : List ℕ) : Type 0 where
 --     promised              the record and the last configuration are those of document 01's run: `Promised` says what that is, with the configurations
 --                           `config .. 0`, the start, `config .. 1`, after the first entry, and so on
 --     ending                an accepted call's number is 0, it found where the last configuration has no front, and its front is that one's: 0 for Found, and
---                           "Spent also carries the front's size"
+--                           "Spent also carries the front's size"; Stuck carries none
+--     stuck                 "with that entry undone and uncounted": the entry behind those counted is stuck on the configuration that is left
 --     bounds                how large these numbers may become
 --     surveyed              "the first bytes of the work memory, one per gate, are its survey"; the surplus stands
 --     found, not-found      what the answer memory holds
@@ -84,7 +85,14 @@ pub record RunMeans (m s tape work ans : List ℕ) (r : RunEffect) : Type 0 wher
   pub entry-is : (d : Entry) (i : ℕ) → 4 * i < length tape → EntryRead tape (4 * i) (getD (entries tape) i d)
   pub promised : Promised (circuit m) s (entries tape) (config (circuit m) s (entries tape)) (endingValues r) (r .moves) (r .flips) (r .configuration)
   pub ending : endingValues r
-      ≡ record { accepted = true; number = 0; found = isEmpty (front (circuit m) (r .configuration)); front = frontSize (circuit m) (r .configuration) }
+      ≡ record {
+        accepted = true;
+        number = 0;
+        found = isEmpty (front (circuit m) (r .configuration));
+        stuck = r .stuck;
+        front = cond (r .stuck) 0 (frontSize (circuit m) (r .configuration));
+      }
+  pub stuck : r .stuck ≡ true → (d : Entry) → (r .moves < length (entries tape)) × StuckAt (circuit m) (r .configuration) (getD (entries tape) (r .moves) d)
   pub bounds : (r .moves ≤ mostEntries) × ((r .flips ≤ 8 * r .moves) × (r .front ≤ mostGates))
   pub surveyed : take (gateCount m) (r .work) ≡ survey (circuit m) (r .configuration)
   pub work-surplus : drop (gateCount m) (r .work) ≡ drop (gateCount m) work
