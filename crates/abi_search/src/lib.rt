@@ -1,4 +1,6 @@
 // Move and Run for hosts in C and Rust, as `abi_state` has its calls.
+#![tactic(auto)]
+
 ghost use Rattle.std.specs.Prelude.{◌≡◌, [], ◌∷◌};
 ghost use Rattle.search.specs.Move.{move_effect};
 ghost use Rattle.search.specs.Run.{run_effect};

@@ -1,5 +1,7 @@
 // Check, Children, Evaluate and Mark for hosts in C and Rust, on byte slices and numbers. Each but children returns the number that it is refused with, or 0. The other numbers of
 // its answer go into `numbers`, as many as there are places; a refused call leaves it as it was, like all lent memory.
+#![tactic(auto)]
+
 pub mod place;
 mod stretch;
 

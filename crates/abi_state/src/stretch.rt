@@ -7,7 +7,7 @@ ghost use Rattle.map.specs.Children.{stretch_place, stretch_length};
 use map::{Checked, Counts, decode};
 
 // A part of the map: where it starts, and how many bytes it has.
-#[derive(Drop)]
+#[derive(Clone, Copy)]
 pub struct Part {
     pub at: usize,
     pub size: usize,

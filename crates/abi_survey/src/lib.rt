@@ -1,4 +1,6 @@
 // Survey for hosts in C and Rust, as `abi_state` has its calls.
+#![tactic(auto)]
+
 ghost use Rattle.std.specs.Prelude.{◌≡◌, [], ◌∷◌};
 ghost use Rattle.survey.specs.Survey.{survey_effect};
 ghost use Rattle.abi_state.specs.Numbers.{host_answer};

@@ -1,6 +1,8 @@
 // Runs framed cases from standard input through Check, Children, Evaluate, Mark, Survey, Move, Run and the program's line, and prints a line for each.
 // A case: an op byte, three u16 (the lengths of the map, of the body and of the output memory), for Move, Run and the program a u32 (the length of the
 // tape), for the last two also two u16 (how often the tape is repeated, and the length of the answer memory), the map, the body, the tape.
+#![tactic(auto)]
+
 ghost use Rattle.std.specs.Prelude.{◌≤◌, ◌<◌, length};
 
 use circuit::{Ending, Outcome};

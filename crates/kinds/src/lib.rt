@@ -1,4 +1,6 @@
 // What the code of these crates knows of single kinds of gate, by their bytes: 0 input, 1 NOT, 2 AND, 3 OR, 4 XOR. (Others test for an input's 0 only.)
+#![tactic(auto)]
+
 ghost use Rattle.std.specs.Prelude.{◌≡◌, ◌≤◌};
 ghost use Rattle.circuit.specs.Tools.{byte};
 ghost use Rattle.circuit.specs.Gate.{kind_of, is_input, relevant};

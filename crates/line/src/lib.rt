@@ -1,4 +1,6 @@
 // The program's line: what is to be printed for the bytes of standard input.
+#![tactic(auto)]
+
 mod parts;
 mod report;
 mod text;

@@ -1,4 +1,6 @@
 // Maps: Check, and the children of a gate.
+#![tactic(auto)]
+
 pub mod decode;
 mod tests;
 
@@ -9,7 +11,7 @@ ghost use Rattle.map.specs.Children.{children_answer, children_effect};
 // A map has 1 to this many gates.
 pub const MOST_GATES: usize = 1024;
 
-#[derive(Drop)]
+#[derive(Clone, Copy)]
 pub struct Counts {
     pub gates: usize,
     pub inputs: usize,
@@ -18,7 +20,7 @@ pub struct Counts {
 }
 
 // Check's answer: the counts of an accepted map, or the number of the first test that fails.
-#[derive(Drop)]
+#[derive(Clone, Copy)]
 pub enum Checked {
     Accepted(Counts),
     Refused(u8),

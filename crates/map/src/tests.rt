@@ -48,7 +48,7 @@ fn kinds_ok(map: &[u8], n: Contents) -> bool
 }
 
 // What test 5 gives at a gate: whether the gate's first child position is right, and the total for the next gate.
-#[derive(Drop)]
+#[derive(Clone, Copy)]
 pub struct Position {
     pub right: bool,
     pub total: usize,

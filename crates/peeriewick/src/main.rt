@@ -1,6 +1,8 @@
 // The program: reads a map, a configuration and a tape from standard input and prints the line of the run on them.
 // It only reads and writes. What it hands to `write_all` is the line for all of standard input, as `line_of` says, if `read_full` reads until its memory is full or the
 // input ends: what a read brings no contract says, and the tests see it.
+#![tactic(auto)]
+
 ghost use Rattle.std.specs.Prelude.{◌≡◌, ◌≤◌, length, take};
 ghost use Rattle.line.specs.Line.{input_room, line_room, LineOfAll};
 

@@ -1,4 +1,6 @@
 // A run on an accepted map, step after step, in lent memory.
+#![tactic(auto)]
+
 ghost use Rattle.std.specs.Prelude.{◌≡◌, length};
 ghost use Rattle.map.specs.Map.{circuit};
 ghost use Rattle.map.specs.Inner.{Counted};
@@ -12,7 +14,7 @@ use steps::step;
 use tape::Step;
 
 // How far a run is: the place reached on the tape, what is done so far, and the size of the present front.
-#[derive(Drop)]
+#[derive(Clone, Copy)]
 pub struct Progress {
     pub at: usize,
     pub moves: u16,
@@ -21,7 +23,7 @@ pub struct Progress {
 }
 
 // What one step of a run comes to: it goes on from there, or it is over.
-#[derive(Drop)]
+#[derive(Clone, Copy)]
 pub enum Advanced {
     On(Progress),
     Over(Ending),

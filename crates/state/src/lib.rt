@@ -1,4 +1,6 @@
 // States of a map: Evaluate and Mark.
+#![tactic(auto)]
+
 pub mod gates;
 pub mod marking;
 pub mod values;
@@ -9,14 +11,14 @@ ghost use Rattle.state.specs.State.{evaluate_answer, evaluate_effect, mark_answe
 use map::Checked;
 
 // Evaluate's answer: the values are written, or the number of the first test that fails.
-#[derive(Drop)]
+#[derive(Clone, Copy)]
 pub enum Written {
     Done,
     Refused(u8),
 }
 
 // Mark's answer.
-#[derive(Drop)]
+#[derive(Clone, Copy)]
 pub enum Marked {
     Yes,
     No,

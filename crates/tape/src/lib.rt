@@ -1,4 +1,6 @@
 // A tape, entry by entry.
+#![tactic(auto)]
+
 ghost use Rattle.std.specs.Prelude.{◌≡◌, ◌+◌, ◌≤◌, length};
 ghost use Rattle.tape.specs.Tape.{choice_of, entry_at, tape_length_test, entry_kinds_test};
 ghost use Rattle.tape.specs.Inner.{step_at};
@@ -10,14 +12,14 @@ use map::decode;
 pub const MOST_TAPE: usize = 65532;
 
 // The tape reader: the lent tape and the place reached.
-#[derive(Drop)]
+#[derive(Clone, Copy)]
 pub struct Tape<'a> {
     pub src: &'a [u8],
     pub at: usize,
 }
 
 // The entry at a place with the place behind it, or the end of the tape.
-#[derive(Drop)]
+#[derive(Clone, Copy)]
 pub enum Step {
     Next(Entry, usize),
     End,
