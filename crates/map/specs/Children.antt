@@ -30,7 +30,7 @@ children_answer r = record { block = r.ref_ptr.0; offset = r.ref_ptr.1; bytes = 
 -- "a returned part of the caller's map slice, whose place and bytes the contract fixes": m is the lent slice
 unfoldable pub children_effect : Bor (List ℕ) → ℕ → ChildrenEffect
 children_effect m g = record {
-  block = m.ptr.0;
+  block = m.ref_ptr.0;
   offset = stretch_place m.now g + m.ref_ptr.1;
   bytes = take (stretch_length m.now g) (drop (stretch_place m.now g) m.now);
 }
