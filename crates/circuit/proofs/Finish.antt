@@ -19,7 +19,7 @@ use Rattle.circuit.specs.Circuit.{Circuit, is_some, coded, WellFormed, on}
 use Rattle.circuit.specs.Evaluate.{Satisfying, KeepsCodes, differ}
 use Rattle.circuit.specs.Survey.{in_front, front}
 use Rattle.circuit.specs.declared.Entry.{Entry}
-use Rattle.circuit.specs.Run.{drawn, down_options, options_left, turn, Chosen, option, itself, chosen, turned_by, is_stuck, entry_chosen, entry_turns, after, told, run, answer}
+use Rattle.circuit.specs.Run.{drawn, down_options, options_left, turn, option, chosen, turned_by, is_stuck, entry_chosen, entry_turns, after, told, run, answer}
 use Rattle.circuit.specs.Promise.{NotGreedy, option_byte, StuckAt, config, FinishingTape, Demand3OnCircuits, SatisfiableNeverStuck}
 use Rattle.circuit.proofs.Values.{agree, unequal}
 use Rattle.circuit.proofs.Lists.{place, pick_at, select_none, in_up_to, in_length, some_is_empty, is_empty_none}
@@ -27,7 +27,7 @@ use Rattle.circuit.proofs.Gate.{laws}
 use Rattle.circuit.proofs.Evaluate.{justify}
 use Rattle.circuit.proofs.Cone.{unjustified_seen, is_in_front}
 use Rattle.circuit.proofs.Turns.{Turnable, keeps_turn, differ_most, differ_zero, differ_turn, left_in, left_few, option_sound, option_few, option_kid, left_turnable, alone_turnable}
-use Rattle.circuit.proofs.Moves.{one_of_some, none_is, drawn_in, no_front}
+use Rattle.circuit.proofs.Moves.{one_of_some, none_is, drawn_in}
 use Rattle.circuit.proofs.Survey.{survey_is}
 use Rattle.circuit.proofs.Trace.{run_found, run_step, past_end, stuck_ends, demand2_on_circuits}
 

@@ -1,4 +1,4 @@
-use Rattle.std.proofs.Common.{◌≡◌, ◌≤◌, ℕ, zero, suc, [], ◌∷◌, refl, sym, ◌∙◌, arith, get_or, slice_index_or, eqb, leb}
+use Rattle.std.proofs.Common.{◌≡◌, ◌≤◌, ℕ, zero, suc, [], ◌∷◌, refl, sym, ◌∙◌, arith, get_or, eqb, leb}
 use borrow.Author.Tests.{eqb-true, eq-eqb, leb-true, le-leb, lt-leb}
 use Rattle.folds.specs.Folds.{◌and◌}
 use Rattle.folds.proofs.Tests.{same_test, and_left, and_right, and_both, and_first_false, and_past}

@@ -1,16 +1,12 @@
 use native.Mathlib.Omega.{arith}
-use Prim.Native.Nat.{◌+◌, ◌<◌}
 use mathlib.Core.Path.{◌≡◌}
-use Rattle.map.specs.Map.{child_count, child_at}
+use Rattle.map.specs.Map.{child_at}
 use Rattle.map.proofs.decode.kid.Goals as goal
 
 -- no gate's children go past the last child
-within : (s : Start) → s.args.first + s.args.j < child_count s.args.map.now
-within s = omega (arith, s.requires.0.is.sound.placed.within s.args.g (omega arith))
-
 pub any_child-requires : goal.any_child-requires
 any_child-requires c =
-    (c.requires.counted.is.sound.placed.shaped, (c.requires.counted.gates, within s))
+    (c.requires.counted.is.sound.placed.shaped, (c.requires.counted.gates, omega (arith, c.requires.counted.is.sound.placed.within c.args.g (omega arith))))
 
 pub returns : goal.returns
 returns c =

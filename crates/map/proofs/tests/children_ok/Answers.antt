@@ -1,4 +1,3 @@
-use Prim.Native.Nat.{◌-◌}
 use native.Mathlib.Omega.{arith}
 use Rattle.folds.proofs.Loops.{loops}
 use Rattle.map.specs.Check.{children_test}
@@ -18,3 +17,9 @@ pub returns : goal.returns
 unfolding children_test
 returns c =
     rw (← c.fan_in-f.ensures.0) (search (rules, loops))
+
+pub loop-j-init : goal.loop-j-init
+loop-j-init c = search (rules, loops)
+
+pub loop-j-preserved : goal.loop-j-preserved
+loop-j-preserved c = search (rules, loops)

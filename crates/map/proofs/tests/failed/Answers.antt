@@ -5,10 +5,6 @@ use Rattle.map.specs.Check.{first_failed, contents_tests, map_tests, verdict}
 use Rattle.map.proofs.Laws.{stop, contents_passed, contents_numbered, fails_before, passes_before}
 use Rattle.map.proofs.tests.failed.Goals as goal
 
--- the contents are right
-none : (c : Else-number-ne0) → let s : Start = search in first_failed (contents_tests s.args.map.now) ≡ 0
-none c = sym c.before.contents-failed.ensures ∙ c.if2.false
-
 pub returns-then-map-lt12 : goal.returns-then-map-lt12
 unfolding verdict map_tests contents_tests
 returns-then-map-lt12 c =
@@ -25,8 +21,8 @@ returns-then-number-ne0 c = c.contents_failed-number.ensures ∙ sym (fails_befo
 
 pub bodies_failed-requires : goal.bodies_failed-requires
 bodies_failed-requires c =
-    record { contents_of = c.read_contents-n.ensures; shaped = (contents_passed _ (none c)).1 }
+    record { contents_of = c.read_contents-n.ensures; shaped = (contents_passed _ (sym c.contents_failed-number.ensures ∙ c.if-number-ne0.false)).1 }
 
 pub returns : goal.returns
 unfolding verdict map_tests
-returns c = c.bodies_failed.ensures ∙ sym (passes_before _ _ (contents_numbered _) (none (goal.at.returns c).PLACE))
+returns c = c.bodies_failed.ensures ∙ sym (passes_before _ _ (contents_numbered _) (sym c.contents_failed-number.ensures ∙ c.if-number-ne0.false))

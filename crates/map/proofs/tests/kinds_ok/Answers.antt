@@ -1,4 +1,3 @@
-use Prim.Native.Nat.{◌-◌}
 use Rattle.folds.proofs.Loops.{loops-of}
 use Rattle.map.specs.Check.{kind_test}
 use borrow.Author.Rules.{rules}
@@ -11,3 +10,6 @@ returns-then-not-fits c = search (rules, loops-of)
 pub loop-g-preserved : goal.loop-g-preserved
 unfolding kind_test
 loop-g-preserved c = search (rules, loops-of)
+
+pub loop-g-init : goal.loop-g-init
+loop-g-init c = search (rules, loops-of)

@@ -1,7 +1,5 @@
-use Prim.Native.Nat.{◌-◌}
-use mathlib.Core.Bool.{true}
-use native.Mathlib.Omega.{arith}
 use Rattle.folds.proofs.Tests.{flag_false, flag_true}
+use native.Mathlib.Omega.{arith}
 use Rattle.folds.proofs.Loops.{all_none, all_more}
 use Rattle.map.proofs.Laws.{fans_none, position_fails, positions_done}
 use borrow.Author.Rules.{rules}
