@@ -33,6 +33,7 @@ fn put_parts(map: &[u8], configuration: &[u8], tape: &[u8], out: &mut [u8]) -> u
 }
 
 // Is the input exactly its parts, and not too long?
+#[tactic(auto, using(folds::proofs::Tests::and_both, folds::proofs::Tests::and_first_false, folds::proofs::Tests::and_second_false), unfolding(crate::specs::Line::input_test))]
 fn is_whole(input: &[u8]) -> bool
     ensures { result ≡ input_test input.now }
 {
@@ -47,6 +48,7 @@ fn is_whole(input: &[u8]) -> bool
 }
 
 // Writes the line for an input.
+#[tactic(auto, using(crate::proofs::Lines::line_refused, crate::proofs::Lines::line_runs, crate::proofs::Lines::whole))]
 pub fn put_line(input: &[u8], out: &mut [u8]) -> usize
     requires { line_room ≤ length out.old }
     ensures { Wrote 0 (line_of input.now) out.old out.new result × (result ≤ line_room) }

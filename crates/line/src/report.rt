@@ -11,6 +11,7 @@ use circuit::Ending;
 use map::decode;
 
 // The digit of gate g's value, if it is an input.
+#[tactic(auto, using(crate::proofs::Writing::wrote_nothing, kinds::proofs::Bytes::gate_kind, kinds::proofs::Bytes::input_kind), unfolding(crate::specs::Inner::input_text))]
 fn put_input(map: &[u8], g: usize, answer: &[u8], out: &mut [u8], at: usize) -> usize
     requires shaped { Shaped map.now × ((g < gate_count map.now) × (g < length answer.now)) }
     requires at_in_bounds { at < length out.old }

@@ -38,6 +38,7 @@ fn choice_of(kind: u8, option: u8) -> Choice
 }
 
 // The entry at a place.
+#[tactic(auto, unfolding(crate::specs::Tape::entry_at))]
 fn entry_at(tape: &[u8], at: usize) -> Entry
     requires { at + 4 ≤ length tape.now }
     ensures { result ≡ entry_at tape.now at }
@@ -48,6 +49,7 @@ fn entry_at(tape: &[u8], at: usize) -> Entry
 }
 
 // What stands at a place, on plain parameters. The place moves on by four.
+#[tactic(auto, unfolding(crate::specs::Inner::step_at))]
 fn step_at(tape: &[u8], at: usize) -> Step
     ensures { result ≡ step_at tape.now at }
 {
@@ -89,6 +91,7 @@ pub fn length_ok(tape: &[u8]) -> bool
 }
 
 // Test 13.
+#[tactic(auto, using(folds::proofs::Loops::loops), unfolding(crate::specs::Tape::entry_kinds_test))]
 pub fn kinds_ok(tape: &[u8]) -> bool
     ensures { result ≡ entry_kinds_test tape.now }
 {

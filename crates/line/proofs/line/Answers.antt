@@ -1,10 +1,10 @@
-use native.Mathlib.Omega.{arith}
+use Rattle.std.proofs.Common.{arith}
 use Rattle.line.proofs.Lines.{prints, prints_nothing}
 use Rattle.line.proofs.line.Goals as goal
 
-pub returns-then-out-lt-LINE_ROOM : goal.returns-then-out-lt-LINE_ROOM
-returns-then-out-lt-LINE_ROOM c = record { out_after = prints_nothing _ _ c.if-out-lt-LINE_ROOM.true; upper_bound = omega arith }
+pub returns-then-out-lt-LINE_ROOM-clause-out_after :
+    goal.returns-then-out-lt-LINE_ROOM-clause-out_after
+returns-then-out-lt-LINE_ROOM-clause-out_after c = prints_nothing _ _ c.if-out-lt-LINE_ROOM.true
 
-pub returns : goal.returns
-returns c =
-    record { out_after = prints _ _ _ _ (omega arith) (omega arith) c.put_line.ensures.0; upper_bound = omega arith }
+pub returns-clause-out_after : goal.returns-clause-out_after
+returns-clause-out_after c = prints _ _ _ _ (omega arith) (omega arith) c.put_line.ensures.0

@@ -1,21 +1,15 @@
-use Rattle.line.proofs.Writing.{wrote_nothing}
+use Rattle.std.proofs.Common.{◌≡◌, arith}
 use Rattle.map.specs.Map.{gate_count}
-use Prim.Native.Nat.{◌-◌}
-use mathlib.Core.Path.{◌≡◌, refl}
-use native.Mathlib.Omega.{arith}
 use Rattle.line.proofs.Rows.{row_none, row_next, row_whole}
+use Rattle.line.proofs.Writing.{wrote_nothing}
 use Rattle.line.proofs.report.put_row.Goals as goal
 
 pub loop-g-init : goal.loop-g-init
-loop-g-init c = (omega arith, (rw (row_none _ _) (wrote_nothing _ _), (omega arith, refl)))
-
-pub put_input-end-requires : goal.put_input-end-requires
-put_input-end-requires c =
-    record { shaped = (c.requires.shaped.0, (omega arith, omega arith)); at_in_bounds = omega arith }
+loop-g-init c = (omega arith, (rw (row_none _ _) (wrote_nothing _ _), omega arith))
 
 pub loop-g-preserved : goal.loop-g-preserved
 loop-g-preserved c =
-    (omega arith, (row_next _ _ _ _ _ _ _ _ _ c.loop-g.invariant.1.0 c.put_input-end.ensures.0, (omega arith, omega arith)))
+    (omega arith, (row_next _ _ _ _ _ _ _ _ _ c.loop-g.invariant.1.0 c.put_input-end.ensures.0, omega arith))
 
 pub returns : goal.returns
 returns c =

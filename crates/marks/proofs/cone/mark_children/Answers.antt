@@ -1,12 +1,15 @@
 use native.Mathlib.Omega.{arith}
-use Prim.Native.Nat.{ℕ, ◌-◌, ◌≤◌}
+use Prim.Native.Nat.{ℕ, ◌<◌, ◌≤◌}
 use mathlib.Core.Path.{◌≡◌, refl, sym, ◌∙◌}
 use mathlib.Core.Bool.{Bool}
-use mathlib.Core.List.{map}
+use mathlib.Core.List.{List}
 use Rattle.circuit.specs.Gate.{kind_of, relevant}
+use Rattle.kinds.specs.Kinds.{only_fan_in}
+use Rattle.map.specs.declared.Counts.{Counts}
 use Rattle.circuit.specs.Circuit.{on}
 use Rattle.circuit.specs.Survey.{reasons}
-use Rattle.map.specs.Map.{fan_in, child_at, kids_of}
+use Rattle.map.specs.Map.{fan_in, kind_byte, child_at, kids_of}
+use Rattle.map.specs.Inner.{Counted}
 use Rattle.state.proofs.Given.{only_fan_in_lem}
 use Rattle.marks.specs.Marks.{to_one}
 use Rattle.marks.proofs.Tables.{paint_none, paint_select, paint_two}
@@ -14,62 +17,56 @@ use borrow.Author.Rules.{rules}
 use Rattle.marks.proofs.cone.mark_children.Goals as goal
 
 -- the fan-in, by the test of the kind's only one
-module _ (o : After-only_fan_in-only invariant-loop decreases-loop) where
-  abbrev start : Start invariant-loop decreases-loop
-  start = search
+fan_is : (m : List ℕ) (counts : Counts) (g kind only n : ℕ) → Counted m counts → g < counts.gates → kind ≡ kind_byte m g → only ≡ only_fan_in (kind_of kind) → only ≡ n → 1 ≤ n
+    → fan_in m g ≡ n
+fan_is m counts g kind only n a l k o e h = only_fan_in_lem m g kind n a.is (omega (arith, a.gates)) k (sym e ∙ o) h
 
-  fan-is : (n : ℕ) → o.only_fan_in_lem.result ≡ n → 1 ≤ n → fan_in start.args.map.now start.args.g ≡ n
-  fan-is n e l =
-      let k : After-kind-kind invariant-loop decreases-loop = search in
-      only_fan_in_lem _ _ _ n start.pre.0.is (omega (arith, start.pre.0.gates)) k.kind.ensures (sym e ∙ o.only_fan_in_lem.ensures) l
-
-one-child : (c : Then-only-eq1 invariant-loop decreases-loop) → let s : Start invariant-loop decreases-loop = search in fan_in s.args.map.now s.args.g ≡ 1
-one-child c = fan-is (search) 1 c.if1.true (omega arith)
-
-two-children : (c : Then-only-eq2 invariant-loop decreases-loop) → let s : Start invariant-loop decreases-loop = search in fan_in s.args.map.now s.args.g ≡ 2
-two-children c = fan-is (search) 2 c.if2.true (omega arith)
-
-pub mark_kid-requires : goal.mark_kid-requires
-mark_kid-requires c =
-    record { counted = c.requires.counted; g_lt_gates = (c.requires.g_lt_gates.0, (c.first_child-first.ensures.0, omega (arith, one-child t))); gates_in_bounds = c.requires.g_lt_gates.1 }
+pub mark_kid-requires-clause-g_lt_gates : goal.mark_kid-requires-clause-g_lt_gates
+mark_kid-requires-clause-g_lt_gates c =
+    let one : fan_in c.args.map.now c.args.g ≡ 1 = fan_is _ _ _ _ _ 1 c.requires.counted c.requires.g_lt_gates.0 c.kind-kind.ensures c.only_fan_in-only.ensures c.if-only-eq1.true (omega arith) in
+    (c.requires.g_lt_gates.0, (c.first_child-first.ensures.0, omega arith))
 
 pub returns-then-only-eq1 : goal.returns-then-only-eq1
 unfolding reasons kids_of
 returns-then-only-eq1 c =
-    rw (c.requires.g_value, one-child t, ← c.kind-kind.ensures) c.mark_kid.ensures
+    let one : fan_in c.args.map.now c.args.g ≡ 1 = fan_is _ _ _ _ _ 1 c.requires.counted c.requires.g_lt_gates.0 c.kind-kind.ensures c.only_fan_in-only.ensures c.if-only-eq1.true (omega arith) in
+    rw (c.requires.g_value, one, ← c.kind-kind.ensures) c.mark_kid.ensures
 
-pub mark_kid-requires-then-only-eq2 : goal.mark_kid-requires-then-only-eq2
-mark_kid-requires-then-only-eq2 c =
-    record { counted = c.requires.counted; g_lt_gates = (c.requires.g_lt_gates.0, (c.first_child-first.ensures.0, omega (arith, two-children t))); gates_in_bounds = c.requires.g_lt_gates.1 }
+pub mark_kid-requires-then-only-eq2-clause-g_lt_gates : goal.mark_kid-requires-then-only-eq2-clause-g_lt_gates
+mark_kid-requires-then-only-eq2-clause-g_lt_gates c =
+    let two : fan_in c.args.map.now c.args.g ≡ 2 = fan_is _ _ _ _ _ 2 c.requires.counted c.requires.g_lt_gates.0 c.kind-kind.ensures c.only_fan_in-only.ensures c.if-only-eq2.true (omega arith) in
+    (c.requires.g_lt_gates.0, (c.first_child-first.ensures.0, omega arith))
 
-pub mark_kid-requires-then-only-eq2-2 : goal.mark_kid-requires-then-only-eq2-2
-mark_kid-requires-then-only-eq2-2 c =
-    record { counted = c.requires.counted; g_lt_gates = (c.requires.g_lt_gates.0, (c.first_child-first.ensures.0, omega (arith, two-children t))); gates_in_bounds = (c.requires.g_lt_gates.1.0, search rules) }
+pub mark_kid-requires-then-only-eq2-2-clause-g_lt_gates : goal.mark_kid-requires-then-only-eq2-2-clause-g_lt_gates
+mark_kid-requires-then-only-eq2-2-clause-g_lt_gates c =
+    let two : fan_in c.args.map.now c.args.g ≡ 2 = fan_is _ _ _ _ _ 2 c.requires.counted c.requires.g_lt_gates.0 c.kind-kind.ensures c.only_fan_in-only.ensures c.if-only-eq2.true (omega arith) in
+    (c.requires.g_lt_gates.0, (c.first_child-first.ensures.0, omega arith))
 
 pub returns-then-only-eq2 : goal.returns-then-only-eq2
 unfolding reasons kids_of
 returns-then-only-eq2 c =
+    let two : fan_in c.args.map.now c.args.g ≡ 2 = fan_is _ _ _ _ _ 2 c.requires.counted c.requires.g_lt_gates.0 c.kind-kind.ensures c.only_fan_in-only.ensures c.if-only-eq2.true (omega arith) in
     let p : ℕ → Bool = λ y. relevant (kind_of c.kind-kind.result) (on c.args.s.now c.args.g) (on c.args.s.now y) in
-    rw (c.requires.g_value, two-children t, ← c.kind-kind.ensures)
-    (c.mark_kid-then-only-eq2-2.ensures
-    ∙ rw c.mark_kid-then-only-eq2.ensures (sym (paint_two to_one p (child_at c.args.map.now c.args.g 0) (child_at c.args.map.now c.args.g 1) c.args.marks.now)))
+    rw (
+      c.requires.g_value,
+      two,
+      ← c.kind-kind.ensures,
+      paint_two to_one p (child_at c.args.map.now c.args.g 0) (child_at c.args.map.now c.args.g 1) c.args.marks.now,
+      ← c.mark_kid-then-only-eq2.ensures,
+    )
+    c.mark_kid-then-only-eq2-2.ensures
 
 pub loop-j-init : goal.loop-j-init
 loop-j-init c = (search rules, (sym (paint_none _ _), refl))
 
-pub mark_kid-requires-in-loop-j : goal.mark_kid-requires-in-loop-j
-mark_kid-requires-in-loop-j c =
-    record { counted = c.requires.counted; g_lt_gates = (c.requires.g_lt_gates.0, (c.first_child-first.ensures.0, omega (arith, c.fan_in-fan.ensures.0, t))); gates_in_bounds = (c.requires.g_lt_gates.1.0, omega (arith, c.loop-j.invariant, c.requires.g_lt_gates.1)) }
-
 pub loop-j-preserved : goal.loop-j-preserved
-loop-j-preserved c =
-    (
-      omega arith,
-      (
-        c.mark_kid-in-loop-j.ensures ∙ rw c.loop-j.invariant.1.0 (sym (paint_select to_one (λ i. child_at c.args.map.now c.args.g i) _ c.loop-j.j _)),
-        omega (arith, c.mark_kid-in-loop-j, l),
-      ),
-    )
+loop-j-preserved c = (
+  omega arith,
+  (
+    c.mark_kid-in-loop-j.ensures ∙ rw c.loop-j.invariant.1.0 (sym (paint_select to_one (λ i. child_at c.args.map.now c.args.g i) _ c.loop-j.j _)),
+    omega arith,
+  ),
+)
 
 pub returns : goal.returns
 unfolding reasons kids_of

@@ -1,15 +1,12 @@
 use mathlib.Core.Path.{◌∙◌, sym}
-use Rattle.circuit.specs.Circuit.{justified}
 use Rattle.marks.proofs.ConePass.{turn_skips, turn_fronts, turn_brings}
-use borrow.Author.Rules.{rules}
 use Rattle.marks.proofs.cone.mark_gate.Goals as goal
 
 pub returns-then-marks-g-eq0 : goal.returns-then-marks-g-eq0
 returns-then-marks-g-eq0 c = turn_skips _ _ _ _ c.if-marks-g-eq0.true
 
-pub mark_children-requires : goal.mark_children-requires
-mark_children-requires c =
-    record { counted = search rules; g_lt_gates = search rules; g_value = sym c.justified.ensures ∙ c.if-justified.true }
+pub mark_children-requires-clause-g_value : goal.mark_children-requires-clause-g_value
+mark_children-requires-clause-g_value c = sym c.justified.ensures ∙ c.if-justified.true
 
 pub returns-then-justified : goal.returns-then-justified
 returns-then-justified c =

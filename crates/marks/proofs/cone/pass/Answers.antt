@@ -10,7 +10,7 @@ loop-g-init c =
 
 pub loop-g-preserved : goal.loop-g-preserved
 loop-g-preserved c =
-    (cone_step _ _ (well_formed _ c.requires.counted.is) _ c.loop-g-test.true _ _ _ _ c.loop-g.invariant.0 c.mark_gate-size.ensures, omega (arith, c.mark_gate-size, l))
+    (cone_step _ _ (well_formed _ c.requires.counted.is) _ c.loop-g-test.true _ _ _ _ c.loop-g.invariant.0 c.mark_gate-size.ensures, omega arith)
 
 pub returns : goal.returns
 returns c =

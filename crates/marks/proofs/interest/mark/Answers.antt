@@ -9,14 +9,13 @@ loop-g-init c =
     (omega arith, (λ t e. rw c.requires.counted.gates (interest_begins _ t _ e), refl))
 
 pub loop-g-preserved : goal.loop-g-preserved
-loop-g-preserved c =
-    (
-      omega arith,
-      (
-        λ t e. rw c.mark_gate.ensures (interest_step _ t (well_formed _ c.requires.counted.is) c.loop-g.g c.loop-g-test.true (omega arith) c.loop-g.marks (c.loop-g.invariant.1.0 t e)),
-        omega (arith, c.mark_gate, l),
-      ),
-    )
+loop-g-preserved c = (
+  omega arith,
+  (
+    λ t e. rw c.mark_gate.ensures (interest_step _ t (well_formed _ c.requires.counted.is) c.loop-g.g c.loop-g-test.true (omega arith) c.loop-g.marks (c.loop-g.invariant.1.0 t e)),
+    omega arith,
+  ),
+)
 
 pub returns : goal.returns
 returns c =

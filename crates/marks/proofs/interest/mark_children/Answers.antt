@@ -1,7 +1,5 @@
 use native.Mathlib.Omega.{arith}
-use Prim.Native.Nat.{◌-◌}
 use mathlib.Core.Path.{◌≡◌, refl, sym}
-use mathlib.Core.List.{map}
 use lib.ListN.{length-set}
 use Rattle.map.specs.Map.{fan_in, child_at, kids_of}
 use Rattle.marks.specs.Marks.{paint, mark_below}
@@ -14,14 +12,13 @@ loop-j-init c = (search rules, (sym (paint_none _ _), refl))
 
 pub loop-j-preserved : goal.loop-j-preserved
 unfolding paint
-loop-j-preserved c =
-    (
-      omega arith,
-      (
-        rw (paint_next mark_below (λ i. child_at c.args.map.now c.args.g i) c.loop-j.j c.args.marks.now, ← c.loop-j.invariant.1.0, ← c.kid-x.ensures.is, ← c.mark_below.ensures),
-        simp length-set c.loop-j.invariant.1.1,
-      ),
-    )
+loop-j-preserved c = (
+  omega arith,
+  (
+    rw (paint_next mark_below (λ i. child_at c.args.map.now c.args.g i) c.loop-j.j c.args.marks.now, ← c.loop-j.invariant.1.0, ← c.kid-x.ensures.is, ← c.mark_below.ensures),
+    simp length-set c.loop-j.invariant.1.1,
+  ),
+)
 
 pub returns : goal.returns
 unfolding kids_of

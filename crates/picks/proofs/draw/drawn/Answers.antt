@@ -1,24 +1,19 @@
 use native.Mathlib.Omega.{arith}
-use Prim.Native.Nat.{◌-◌}
 use mathlib.Core.Path.{◌≡◌}
 use lib.ListN.{length, get_or}
 use lib.Dec.{eqb}
 use Rattle.picks.specs.Picks.{front_by}
 use Rattle.picks.proofs.Places.{found_at, passed_at, none_left_lem}
-use borrow.Author.Rules.{rules}
 use Rattle.picks.proofs.draw.drawn.Goals as goal
-
-pub loop-g-init : goal.loop-g-init
-loop-g-init c = (search rules, omega arith)
 
 pub returns-then-left-hit : goal.returns-then-left-hit
 unfolding front_by
 returns-then-left-hit c =
-    (found_at _ (length c.args.marks.now) c.loop-g.g _ c.loop-g.false _ c.loop-g.invariant.1 c.front_bit-hit.ensures.0 c.if-left-hit.true (omega arith), omega arith)
+    (found_at _ (length c.args.marks.now) c.loop-g.g _ c.loop-g.left _ c.loop-g.invariant.1 c.front_bit-hit.ensures.0 c.if-left-hit.true (omega arith), omega arith)
 
 pub loop-g-preserved : goal.loop-g-preserved
 loop-g-preserved c =
-    (omega arith, passed_at _ c.loop-g.g _ c.loop-g.false _ c.loop-g.invariant.1 c.front_bit-hit.ensures.0 c.if-left-hit.false _ (omega arith))
+    (omega arith, passed_at _ c.loop-g.g _ c.loop-g.left _ c.loop-g.invariant.1 c.front_bit-hit.ensures.0 c.if-left-hit.false _ (omega arith))
 
 pub returns : goal.returns
 unfolding front_by

@@ -1,10 +1,12 @@
 use Prim.Native.Nat.{ℕ}
 use mathlib.Core.Path.{◌≡◌, sym, ◌∙◌}
 use mathlib.Core.Bool.{true}
-use lib.ListN.{drop}
+use mathlib.Core.List.{List}
+use lib.ListN.{length, drop}
 use borrow.Author.Tests.{eq-eqb, ne_eqb}
-use Rattle.folds.proofs.Tests.{flag_false, flag_true}
+use Rattle.map.specs.Map.{gate_count}
 use Rattle.map.specs.Check.{first_failed}
+use Rattle.map.specs.Inner.{IsMap}
 use Rattle.map.proofs.Laws.{past, stop, no_test}
 use Rattle.state.specs.State.{bits_test, configuration_tests}
 use Rattle.state.specs.Inner.{shown_by_record}
@@ -13,33 +15,23 @@ use Rattle.state.proofs.Marks.{codes_by_record}
 use Rattle.survey.specs.Survey.{start_tests, codes_shown_test}
 use Rattle.survey.proofs.start.failed.Goals as goal
 
--- the number, from the test at place k of the list on
-abbrev from : ℕ → (c : Start) → ℕ
-from k s = first_failed (drop k (start_tests s.args.map.now s.args.s.now))
+module _ (m s : List ℕ) where
+  -- the number, from the test at place k of the list on
+  abbrev from : ℕ → ℕ
+  from k = first_failed (drop k (start_tests m s))
 
--- behind tests 9 and 10
-module _ (c : Else-s-counts) where
-  abbrev start₁ : Start
-  start₁ = search
-
-  q1 : from 0 start₁ ≡ from 1 start₁
+  -- behind tests 9 and 10
+  q1 : length s ≡ gate_count m → from 0 ≡ from 1
   unfolding start_tests configuration_tests
-  q1 = past _ _ _ (eq-eqb _ _ (c.if1.false ∙ start₁.pre.gates))
+  q1 e = past _ _ _ (eq-eqb _ _ e)
 
-module _ (c : Else-not-bits_ok) where
-  abbrev start₂ : Start
-  start₂ = search
-
-  bits : bits_test start₂.args.s.now ≡ true
-  bits = flag_true _ _ c.if2.false c.before.bits-ok.ensures
-
-  q2 : from 0 start₂ ≡ from 2 start₂
+  q2 : length s ≡ gate_count m → bits_test s ≡ true → from 0 ≡ from 2
   unfolding start_tests configuration_tests
-  q2 = q1 (search) ∙ past _ _ _ bits
+  q2 e b = q1 e ∙ past _ _ _ b
 
-  by-record : codes_shown_test start₂.args.map.now start₂.args.s.now ≡ shown_by_record start₂.args.map.now start₂.args.s.now
+  by_record : IsMap m → bits_test s ≡ true → codes_shown_test m s ≡ shown_by_record m s
   unfolding codes_shown_test
-  by-record = codes_by_record _ _ start₂.pre.is (bits_of _ bits)
+  by_record k b = codes_by_record m s k (bits_of s b)
 
 pub returns-then-s-counts : goal.returns-then-s-counts
 unfolding start_tests configuration_tests
@@ -48,12 +40,17 @@ returns-then-s-counts c =
 
 pub returns-then-not-bits_ok : goal.returns-then-not-bits_ok
 unfolding start_tests configuration_tests
-returns-then-not-bits_ok c = sym (q1 (goal.at.returns-then-not-bits_ok c).PLACE ∙ stop _ _ _ (flag_false _ _ c.if-not-bits_ok.true c.bits_ok.ensures))
+returns-then-not-bits_ok c =
+    sym (q1 _ _ (c.if-s-counts.false ∙ c.requires.gates) ∙ stop _ _ _ (sym c.bits_ok.ensures ∙ c.if-not-bits_ok.true))
 
 pub returns-then-not-codes_shown : goal.returns-then-not-codes_shown
 unfolding start_tests configuration_tests
-returns-then-not-codes_shown c = sym (q2 (goal.at.returns-then-not-codes_shown c).PLACE ∙ stop _ _ _ (by-record (goal.at.returns-then-not-codes_shown c).PLACE ∙ flag_false _ _ c.if-not-codes_shown.true c.codes_shown.ensures))
+returns-then-not-codes_shown c =
+    let b = sym c.bits_ok.ensures ∙ c.if-not-bits_ok.false in
+    sym (q2 _ _ (c.if-s-counts.false ∙ c.requires.gates) b ∙ stop _ _ _ (by_record _ _ c.requires.is b ∙ sym c.codes_shown.ensures ∙ c.if-not-codes_shown.true))
 
 pub returns : goal.returns
 unfolding start_tests configuration_tests
-returns c = sym (q2 (goal.at.returns c).PLACE ∙ past _ _ _ (by-record (goal.at.returns c).PLACE ∙ flag_true _ _ c.if-not-codes_shown.false c.codes_shown.ensures) ∙ no_test)
+returns c =
+    let b = sym c.bits_ok.ensures ∙ c.if-not-bits_ok.false in
+    sym (q2 _ _ (c.if-s-counts.false ∙ c.requires.gates) b ∙ past _ _ _ (by_record _ _ c.requires.is b ∙ sym c.codes_shown.ensures ∙ c.if-not-codes_shown.false) ∙ no_test)
