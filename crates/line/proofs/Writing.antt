@@ -6,7 +6,7 @@ use native.Mathlib.Nat.{zero-add, add-zero}
 use native.Mathlib.Numerals.{add-one}
 use native.Mathlib.Omega.{arith}
 use lib.ListN.{length, get_or, set, take, drop, length-append}
-use lib.Seq.{sets, sets-eq, take-suc, take_at, length-take-le}
+use lib.Seq.{sets, sets-eq, take-suc, take-length, take_at, length-take-le}
 use borrow.Author.Tests.{lt-ltb, le-ltb}
 use Rattle.state.specs.State.{over}
 use Rattle.line.specs.Text.{decimal_in}
@@ -28,6 +28,10 @@ wrote_then at e f x y w v u p q = record {
   behind = simp length-append (omega (arith, p.behind, q.behind));
 }
 
+-- a byte
+pub wrote_byte : (at b : ℕ) (w : List ℕ) → Wrote at (b ∷ []) w (set w at b) (at + 1)
+wrote_byte at b w = record { memory = refl; behind = refl }
+
 -- a text's first i bytes, and its next byte
 pub wrote_next : (at i f b : ℕ) (text w v u : List ℕ) → i < length text → b ≡ get_or text i 0 → Wrote at (take i text) w v (at + i)
     → Wrote (at + i) (b ∷ []) v u f → Wrote at (take (i + 1) text) w u (at + (i + 1))
@@ -38,6 +42,9 @@ wrote_next at i f b text w v u h q p r = record {
   where
     next : take (i + 1) text ≡ take i text ++ (get_or text i 0 ∷ [])
     next = rw (add-one i) (take-suc text i 0 h)
+
+pub wrote_whole : (at n : ℕ) (text w v : List ℕ) → n ≡ length text → Wrote at (take n text) w v (at + n) → Wrote at text w v (at + n)
+wrote_whole at n text w v e p = record { memory = p.memory ∙ rw (e, take-length text); behind = rw e }
 
 -- all of it, from the start of memory
 pub wrote_over : (x w v : List ℕ) (e : ℕ) → length x ≤ length w → Wrote 0 x w v e → (v ≡ over x w) × (e ≡ length x)

@@ -3,11 +3,12 @@
 // input ends: what a read brings no contract says, and the tests see it.
 #![tactic(auto)]
 
-ghost use Rattle.std.specs.Prelude.{◌≡◌, ◌≤◌, length, take};
+ghost use Rattle.std.specs.Prelude.{◌≡◌, ◌≤◌, IfOk, length, take};
 ghost use Rattle.line.specs.Line.{input_room, line_room, LineOfAll};
 
-use libc::{STDIN_FILENO, STDOUT_FILENO};
 use line::{INPUT_ROOM, LINE_ROOM};
+use std::io;
+use std::io::{ErrorKind, Read};
 
 // The line for standard input, of which `buf` took the first n bytes, written into the first bytes of `out`. `buf` has a byte more than an input may have: that is
 // needed, and enough (`CutInput`).
@@ -21,16 +22,38 @@ fn line_of<'a>(buf: &[u8], n: usize, out: &'a mut [u8]) -> &'a [u8]
     &all[..size]
 }
 
-// Reads into all of `buf`, and prints the line.
-fn answer(buf: &mut [u8])
-    requires { length buf.old ≡ input_room }
+// Reads until `buf` is full or the input ends, however small the pieces in which it comes. Returns how many bytes it read: they are the first of `buf`.
+fn read_full(input: &mut impl Read, buf: &mut [u8]) -> io::Result<usize>
+    ensures { IfOk result (λ n. n ≤ length buf.new) }
 {
-    let n = io::read_full(STDIN_FILENO, buf);
-    let mut out = [0u8; LINE_ROOM];
-    io::write_all(STDOUT_FILENO, line_of(buf, n, &mut out));
+    let mut done = 0;
+    for _ in 0..u64::MAX {
+        if done == buf.len() {
+            break;
+        }
+        match input.read(&mut buf[done..]) {
+            Ok(0) => break,
+            Ok(n) => done += n,
+            Err(e) => {
+                if e.kind() != ErrorKind::Interrupted {
+                    return Err(e);
+                }
+            }
+        }
+    }
+    Ok(done)
 }
 
-fn main() {
+// Reads into all of `buf`, and prints the line.
+fn answer(rt: &(impl Input + Print), buf: &mut [u8]) -> io::Result<()>
+    requires { length buf.old ≡ input_room }
+{
+    let n = read_full(&mut rt.reader(), buf)?;
+    let mut out = [0u8; LINE_ROOM];
+    rt.write_all(line_of(buf, n, &mut out))
+}
+
+fn main(rt: HostRuntime) -> io::Result<()> {
     let mut buf = [0u8; INPUT_ROOM];
-    answer(&mut buf);
+    answer(&rt, &mut buf)
 }

@@ -1,13 +1,10 @@
-use mathlib.Core.Path.{sym, ap, ◌∙◌}
 use Rattle.map.specs.Check.{check_answer}
 use Rattle.abi_state.proofs.peeriewick_check.Goals as goal
 
 pub returns-in-Refused : goal.returns-in-Refused
 unfolding check_answer
-returns-in-Refused c =
-    rw (← (ap check_answer (sym c.k-1.given.1) ∙ c.check.ensures))
+returns-in-Refused c = rw (← c.in-Refused.ensures)
 
 pub returns-in-Accepted : goal.returns-in-Accepted
 unfolding check_answer
-returns-in-Accepted c =
-    rw (← (ap check_answer (sym c.c-1.given.1) ∙ c.check.ensures), c.four.ensures.0, c.four.ensures.1)
+returns-in-Accepted c = rw (← c.in-Accepted.ensures, c.four.ensures.0, c.four.ensures.1)

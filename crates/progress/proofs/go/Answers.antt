@@ -1,10 +1,6 @@
 use native.Mathlib.Omega.{arith}
-use Prim.Native.Nat.{◌-◌}
 use Rattle.progress.proofs.Going.{run_begins}
 use Rattle.progress.proofs.go.Goals as goal
-
-abbrev begun : At-loop-ending invariant-loop decreases-loop → Start invariant-loop decreases-loop
-begun c = search
 
 pub loop-ending-init : goal.loop-ending-init
 loop-ending-init c =
@@ -12,21 +8,24 @@ loop-ending-init c =
 
 pub advance-advanced-requires : goal.advance-advanced-requires
 advance-advanced-requires c =
-    let s = begun l in
-    record { counted = s.pre.0; workspace = record { codes = s.pre.1.0.codes; space = c.loop-ending.invariant.1.0 }; stands = record { start = _; stands = c.loop-ending.invariant.0 } }
+    record {
+      counted = c.requires.counted;
+      workspace = record { codes = c.requires.workspace.codes; space = c.loop-ending.invariant.1.0 };
+      stands = record { start = _; stands = c.loop-ending.invariant.0 };
+    }
 
 pub returns-in-Over : goal.returns-in-Over
 returns-in-Over c =
-    rw c.advanced-1.given.1 at (c.advance-advanced.ensures.of _ c.loop-ending.invariant.0.going)
+    rw c.in-Over.is at (c.advance-advanced.ensures.of _ c.loop-ending.invariant.0.going)
 
 pub loop-ending-smaller : goal.loop-ending-smaller
 loop-ending-smaller c =
-    let e = rw c.advanced-in-On-1.given.1 at (c.advance-advanced.ensures.of _ c.loop-ending.invariant.0.going) in
+    let e = rw c.in-On.is at (c.advance-advanced.ensures.of _ c.loop-ending.invariant.0.going) in
     omega (arith, e, c.loop-ending.invariant.0.going)
 
 pub loop-ending-preserved : goal.loop-ending-preserved
 loop-ending-preserved c =
-    let e = rw c.advanced-in-On-1.given.1 at (c.advance-advanced.ensures.of _ c.loop-ending.invariant.0.going) in
+    let e = rw c.in-On.is at (c.advance-advanced.ensures.of _ c.loop-ending.invariant.0.going) in
     let room = c.loop-ending.invariant.1 in (
       e.stands,
       (

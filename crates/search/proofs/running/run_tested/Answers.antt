@@ -1,29 +1,11 @@
-use native.Mathlib.Omega.{arith}
-use Prim.Native.Nat.{◌≤◌}
-use mathlib.Core.Path.{sym}
-use lib.ListN.{length}
-use lib.Seq.{length-take-le}
+use Rattle.std.proofs.Common.{arith}
 use Rattle.map.specs.Map.{most_gates}
 use Rattle.map.proofs.Laws.{marks_none}
 use Rattle.search.proofs.Runs.{ran_over}
 use Rattle.search.proofs.running.run_tested.Goals as goal
 
-few : (s : Start) → s.args.counts.gates ≤ most_gates
-few s = let f = s.requires.0.is.sound.placed.shaped.few in omega arith
-
-pub mark_coded-requires : goal.mark_coded-requires
-mark_coded-requires c =
-    record { counted = c.requires.counted; gates_in_bounds = (few s, marks_none _ most_gates) }
-
-pub run_within-requires : goal.run_within-requires
-run_within-requires c =
-    let f = length-take-le _ _ (few s) in
-    let t = c.requires.run_tested in
-    let n = c.requires.counted.gates in
-    let w : c.args.counts.gates ≤ length c.args.work.now = omega (arith, t.room, n) in record { counted = c.requires.counted; workspace = record {
-          codes = record { long = omega (arith, c.mark_coded); marks = c.mark_coded.ensures };
-          space = record { for_s = omega (arith, t.begins.keeps.configuration.long, n); for_trial = sym f; for_scratch = sym f };
-        }; begins = (t.begins, (sym (length-take-le _ _ w), omega (arith, t.room, n))) }
+pub mark_coded-requires-clause-gates_in_bounds : goal.mark_coded-requires-clause-gates_in_bounds
+mark_coded-requires-clause-gates_in_bounds c = (let f = c.requires.counted.is.sound.placed.shaped.few in omega arith, marks_none _ most_gates)
 
 pub returns : goal.returns
 returns c =

@@ -1,4 +1,4 @@
-use Prim.Native.Nat.{ℕ, ◌-◌}
+use Prim.Native.Nat.{ℕ}
 use mathlib.Core.Path.{refl, ap, ◌∙◌}
 use mathlib.Core.List.{List}
 use native.Mathlib.Omega.{arith}
@@ -13,24 +13,20 @@ use Rattle.state.proofs.values.fill.Goals as goal
 pub loop-g-init : goal.loop-g-init
 loop-g-init c = (search rules, (inputs_none _, (search rules, (filled_none _ _ _, refl))))
 
-pub gate_value-v-requires : goal.gate_value-v-requires
-gate_value-v-requires c =
-    record { counted = c.requires.counted; g_lt_gates = (search rules, omega arith); row_tested = (c.requires.row_tested.0, c.loop-g.invariant.1.0) }
-
 pub loop-g-preserved : goal.loop-g-preserved
 loop-g-preserved c =
     let l = c.loop-g in
     let v = c.gate_value-v.result in
-    let e = rw (l.inv.1.0, l.inv.1.1.1.0) at c.gate_value-v.ensures in (
+    let e = rw (l.invariant.1.0, l.invariant.1.1.1.0) at c.gate_value-v.ensures in (
       omega arith,
       (
-        rw (inputs_more c.args.map.now l.g, ← c.kind.ensures, ← c.input_bit-at.ensures.0, ← l.inv.1.0),
+        rw (inputs_more c.args.map.now l.g, ← c.kind.ensures, ← c.input_bit-at.ensures.0, ← l.invariant.1.0),
         (
           omega arith,
           (
-            ap (λ (o : List ℕ). set o l.g v) l.inv.1.1.1.0
+            ap (λ (o : List ℕ). set o l.g v) l.invariant.1.1.1.0
                 ∙ filled_more (circuit c.args.map.now) (well_formed _ c.requires.counted.is) (row_value (circuit c.args.map.now) c.args.row.now) c.args.out.now l.g v (omega arith) (omega arith) e,
-            simp length-set l.inv.1.1.1.1,
+            simp length-set l.invariant.1.1.1.1,
           ),
         ),
       ),

@@ -1,8 +1,6 @@
 use native.Mathlib.Omega.{arith}
-use Prim.Native.Nat.{◌-◌}
-use mathlib.Core.Path.{◌≡◌, refl}
+use mathlib.Core.Path.{refl}
 use lib.ListN.{replicate, length-set}
-use Rattle.steps.specs.Options.{option_count_of}
 use Rattle.steps.proofs.Listed.{few_options, list_none, list_more}
 use Rattle.steps.proofs.left.list.Goals as goal
 
@@ -26,8 +24,3 @@ loop-i-preserved c =
         ),
       ),
     )
-
-pub returns : goal.returns
-returns c =
-    let e : c.loop-i.i ≡ option_count_of c.args.map.now c.args.s.now c.args.g = omega (arith, c.count-n.ensures) in
-    record { few = omega arith; room = c.loop-i.invariant.1.1.1.0; are = rw (← e) c.loop-i.invariant.1.1.1.1 }

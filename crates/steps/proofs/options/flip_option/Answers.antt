@@ -1,5 +1,5 @@
 use Rattle.map.specs.Map.{gate_count, fan_in}
-use Prim.Native.Nat.{◌-◌, ◌<◌}
+use Prim.Native.Nat.{◌<◌}
 use Rattle.circuit.specs.Gate.{kind_of}
 use Rattle.circuit.specs.Circuit.{on}
 use Rattle.circuit.specs.Tools.{byte}
@@ -32,11 +32,6 @@ loop-j-preserved c =
           are = c.flip_child-turned.ensures.0 ∙ rw (h, c.kid-x.ensures.is, c.loop-j.invariant.1.0.are) (flips_more m s g i c.requires.counted.is in_map j in-fan);
           counted = omega (arith, flips_count m s g i j, c.flip_child-turned.ensures.1.0 ∙ ap byte h, c.loop-j.invariant.1.0.counted);
         },
-        (omega arith, omega (arith, c.flip_child-turned, l)),
+        (omega arith, omega (arith, c.flip_child-turned)),
       ),
     )
-
-pub returns : goal.returns
-returns c =
-    let e : fan_in c.args.map.now c.args.g ≡ c.loop-j.j = omega arith in
-    rw e c.loop-j.invariant.1.0
