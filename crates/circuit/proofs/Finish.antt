@@ -131,7 +131,7 @@ at_once c s ds n e = record {
   tape = map idle ds;
   draws = idle_draws ds;
   plain = idle_plain ds;
-  ends_found_lem = rw (run_found c s (map idle ds) e);
+  ends_found = rw (run_found c s (map idle ds) e);
   moves = rw (run_found c s (map idle ds) e) (omega arith);
   flips = rw (run_found c s (map idle ds) e) (omega arith);
 }
@@ -142,7 +142,7 @@ onward c s a d ds m n e t q r = record {
   tape = x ∷ r.tape;
   draws = ap (λ (l : List ℕ). d ∷ l) r.draws;
   plain = λ y i. elim (cases i) [ inl w ↦ rw w t.plain | inr j ↦ r.plain y j ];
-  ends_found_lem = rw same_run r.ends_found_lem;
+  ends_found = rw same_run r.ends_found;
   moves = rw same_run (omega (arith, r.moves, t.some_gone));
   flips = rw same_run (omega (arith, r.flips));
 }
@@ -193,7 +193,7 @@ pub demand3_on_circuits : Demand3OnCircuits
 demand3_on_circuits c ok s k = record {
   only = λ tape f. (answer c (run c s tape).last, (demand2_on_circuits.runs c ok s k tape).shows f);
   some_tape = λ r. (let z = zeros c ok s k r.0 r.1 in
-      (z.tape, λ e m. (zeros_fit c ok s k r.0 r.1 e m, (z.plain e m).1), zeros_few c ok s k r.0 r.1, z.ends_found_lem));
+      (z.tape, λ e m. (zeros_fit c ok s k r.0 r.1 e m, (z.plain e m).1), zeros_few c ok s k r.0 r.1, z.ends_found));
   bounded = λ a sat ds l. finish c ok a sat ds s k (omega arith);
 }
 
@@ -210,7 +210,7 @@ module _ (c : Circuit) (ok : WellFormed c) (a : List ℕ) (sat : Satisfying c a)
       let g = drawn c s e.draw in
       let m = ((survey_is c ok s).listed.has g).1 t.is_in_front in
       let (o, n, near) = near_left c ok a sat s k g m (coded_agrees g (is_in_front c ok s g m).0 t.is_coded) in
-      is_empty_none o (options_left c s g) ((none_is c ok s g m).1 t.none_left_lem) n
+      is_empty_none o (options_left c s g) ((none_is c ok s g m).1 t.none_left) n
 
 -- a run whose entries are never stuck isn't
 pub runs_go : (c : Circuit) → WellFormed c → (s : List ℕ) → KeepsCodes c s → ((t : List ℕ) → KeepsCodes c t → (e : Entry) → ¬ StuckAt c t e)

@@ -215,8 +215,8 @@ module _ (c : Circuit) (ok : WellFormed c) (s : List ℕ) where
     pub stuck_is : (is_stuck (entry_chosen c s e) ≡ true) ↔ StuckAt c s e
     stuck_is =
         let w = stuck_does c ok s (drawn c s e.draw) drawn_front e.choice (entry_chosen c s e) (entry_turns c s e) as_said in (
-          λ z. record { is_in_front = in_its_front; is_coded = (w.0 z).0; none_left_lem = (w.0 z).1 },
-          λ t. w.1 (t.is_coded, t.none_left_lem),
+          λ z. record { is_in_front = in_its_front; is_coded = (w.0 z).0; none_left = (w.0 z).1 },
+          λ t. w.1 (t.is_coded, t.none_left),
         )
 
     -- and then it turns nothing

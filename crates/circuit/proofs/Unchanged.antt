@@ -57,7 +57,7 @@ module _ (c : Circuit) (ok : WellFormed c) (none : NoCodedChild c) (s : List ℕ
   no_entry_stuck e t =
       let g = drawn c s e.draw in
       let m = ((survey_is c ok s).listed.has g).1 t.is_in_front in
-      true≢false (sym ((none_is c ok s g m).1 t.none_left_lem) ∙ some_left g m)
+      true≢false (sym ((none_is c ok s g m).1 t.none_left) ∙ some_left g m)
 
   module _ (q : is_empty (front c s) ≡ false) (e : Entry) where
     entry_before : entry_turns c s e ≡ entry_of_all c s e

@@ -86,7 +86,7 @@ ChoiceDoes c s g h stuck xs = (xs ≡ []) × ((coded c g ≡ true) × NoneLeft c
 pub record StuckAt (c : Circuit) (s : List ℕ) (e : Entry) : Type 0 where
   pub is_in_front : Front c s (move c s e).gate
   pub is_coded : coded c (move c s e).gate ≡ true
-  pub none_left_lem : NoneLeft c s (move c s e).gate
+  pub none_left : NoneLeft c s (move c s e).gate
 
 -- What an entry does.
 --     draw_place, is_in_front    it draws a gate of the front by its place
@@ -265,7 +265,7 @@ pub record FinishingTape (c : Circuit) (s : List ℕ) (ds : List ℕ) (n : ℕ) 
   pub tape : List Entry
   pub draws : map (λ (e : Entry). e.draw) tape ≡ ds
   pub plain : (e : Entry) → In e tape → NotGreedy e.choice × (option_byte e.choice < 256)
-  pub ends_found_lem : ends_found (run c s tape) ≡ true
+  pub ends_found : ends_found (run c s tape) ≡ true
   pub moves : (run c s tape).outcome.moves ≤ n
   pub flips : (run c s tape).outcome.flips ≤ n
 

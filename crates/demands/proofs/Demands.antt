@@ -84,14 +84,14 @@ module _ (m s tape work ans : List ℕ) (a : Runnable m s tape work ans) where
       let w = (answer_is (circuit m) ok end.last).0 in
       let l : length (answer (circuit m) end.last) ≡ gate_count m = w.configuration.long in
       let first = over_first (answer (circuit m) end.last) ans (gate_count m) l in
-      let no-front-left : NoFront (circuit m) end.last = rw promised.last_is (found_ends (circuit m) (entries tape) (config (circuit m) s (entries tape)) end.outcome.moves (told end.outcome.ending) promised.ends f).empty in
+      let no_front_left : NoFront (circuit m) end.last = rw promised.last_is (found_ends (circuit m) (entries tape) (config (circuit m) s (entries tape)) end.outcome.moves (told end.outcome.ending) promised.ends f).empty in
       record {
         answered = rw first w;
         marked = rw first ((mark_does m (answer (circuit m) end.last)).1 (a.start.accepted, promised.shows f));
         row = rw (row_first (circuit m) (answer (circuit m) end.last) _ l, first)
             (row_is (circuit m) (answer (circuit m) end.last) w.configuration, evaluate_again (circuit m) ok (answer (circuit m) end.last) w.configuration w.obeys);
         codes = λ r h. shown m (facts m a.start.accepted) (answer (circuit m) end.last) _ (promised.shows f) r h;
-        free = λ b w. (mark_does m b).1 (a.start.accepted, demand2_on_circuits.free (circuit m) ok end.last promised.keeps no-front-left b w);
+        free = λ b w. (mark_does m b).1 (a.start.accepted, demand2_on_circuits.free (circuit m) ok end.last promised.keeps no_front_left b w);
         surplus = over_rest (answer (circuit m) end.last) ans (gate_count m) l;
         long = over_long (answer (circuit m) end.last) ans (gate_count m) l a.room.answer_room;
       }
@@ -234,7 +234,7 @@ module _ (m s : List ℕ) (k : IsStart m s) where
       plain = plain;
       bytes = tape_bytes ds ways d plain;
       draws = rw reads f.draws;
-      run_finds = λ work ans r. rw (runs work ans r) (record { found = f.ends_found_lem; moves = f.moves; flips = f.flips });
+      run_finds = λ work ans r. rw (runs work ans r) (record { found = f.ends_found; moves = f.moves; flips = f.flips });
     }
 
   bounded : (a : List ℕ) → Satisfies m a → (ds : List ℕ) → AreDraws ds → length ds ≡ differ (circuit m) s a → Finishing m s ds (differ (circuit m) s a)

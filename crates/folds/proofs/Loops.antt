@@ -62,4 +62,4 @@ all_done_of n f i p e a l r = rw (← e) (all_done f i p a l r)
 
 pub ruleset loops = (all_none, all_more, fails_at, all_done, flags)
 
-pub ruleset loops-of = (all_none, all_more, fails_at_of, all_done_of, flags)
+pub ruleset loops_of = (all_none, all_more, fails_at_of, all_done_of, flags)

@@ -1,12 +1,12 @@
 use native.Mathlib.Omega.{arith}
 use mathlib.Core.Path.{◌≡◌, ap, ◌∙◌}
-use mathlib.Core.Bool.{Bool, true, false}
+use mathlib.Core.Bool.{Bool, true}
 use Rattle.folds.specs.Folds.{◌and◌}
 use Rattle.circuit.specs.Tools.{byte}
 use Rattle.circuit.specs.Gate.{is_input, kind_of}
 use Rattle.circuit.specs.Circuit.{on}
 use Rattle.map.specs.Map.{kind_byte, circuit}
-use Rattle.kinds.proofs.Bytes.{input_kind, gate_kind}
+use Rattle.kinds.proofs.Bytes.{input_kind}
 use Rattle.marks.proofs.Marked.{marks_length, cone_by}
 use Rattle.answer.proofs.answer_value.Goals as goal
 
@@ -19,8 +19,3 @@ returns-then-kind-eq0 c =
     let m = c.args.map.now in
     let i : is_input (kind_of (kind_byte m c.args.g)) ≡ true = rw (← c.kind.ensures) (input_kind _ c.if-kind-eq0.true) in
     rw i (c.kept.ensures ∙ ap (λ (b : Bool). byte (b and on c.args.s.now c.args.g)) (cone_by (circuit m) c.args.s.now _ c.requires.marks_value c.args.g (omega arith)))
-
-pub returns : goal.returns
-returns c =
-    let i : is_input (kind_of (kind_byte c.args.map.now c.args.g)) ≡ false = rw (← c.kind.ensures) (gate_kind _ c.if-kind-eq0.false) in
-    rw i (c.bit.ensures ∙ ap byte c.given.ensures)

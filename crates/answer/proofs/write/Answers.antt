@@ -16,10 +16,6 @@ use Rattle.answer.proofs.write.Goals as goal
 pub loop-g-init : goal.loop-g-init
 loop-g-init c = (search rules, (filled_none _ _ _, refl))
 
-pub answer_value-v-requires : goal.answer_value-v-requires
-answer_value-v-requires c =
-    record { counted = c.requires.counted; g_lt_gates = (omega arith, (c.requires.gates_in_bounds.0, omega arith)); marks_value = c.requires.marks_value }
-
 pub loop-g-preserved : goal.loop-g-preserved
 loop-g-preserved c =
     let m = c.args.map.now in

@@ -61,7 +61,7 @@ pub returns-then-report-eq0 : goal.returns-then-report-eq0
 returns-then-report-eq0 c =
     let k = c.requires.stands.stands in
     let e = c.entry-report.ensures.next
-        ∙ same _ _ c.args.p _ _ c.requires.counted.is k.shown c.if-front-eq0.false _ _ _ c.read-reached.ensures c.in-Next.is _ c.entry-report.ensures.turned c.if-report-eq0.true _ k.going in
+    ∙ same _ _ c.args.p _ _ c.requires.counted.is k.shown c.if-front-eq0.false _ _ _ c.read-reached.ensures c.in-Next.is _ c.entry-report.ensures.turned c.if-report-eq0.true _ k.going in
     record {
       of = λ start g. record {
         ends = rw e (sticks _ _ c.args.p _ _ c.requires.counted.is k.shown c.if-front-eq0.false _ _ _ c.read-reached.ensures c.in-Next.is _ c.entry-report.ensures.turned c.if-report-eq0.true start g);
@@ -72,11 +72,6 @@ returns-then-report-eq0 c =
 pub settle-after-requires-clause-gates_in_bounds : goal.settle-after-requires-clause-gates_in_bounds
 settle-after-requires-clause-gates_in_bounds c =
     (omega (arith, c.entry-report, c.requires.workspace), omega (arith, marks_length _ _ _ c.requires.stands.stands.shown.are, c.requires.counted.gates))
-
-pub overflow_add-result : goal.overflow_add-result
-overflow_add-result c =
-    let k = c.requires.stands.stands in
-    omega (arith, goes _ _ c.args.p _ _ c.requires.counted.is k.shown c.if-front-eq0.false _ _ _ c.read-reached.ensures c.in-Next.is _ c.entry-report.ensures.turned c.if-report-eq0.false _ k.going)
 
 pub overflow_add-result-2 : goal.overflow_add-result-2
 overflow_add-result-2 c =

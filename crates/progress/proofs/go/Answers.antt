@@ -6,18 +6,6 @@ pub loop-ending-init : goal.loop-ending-init
 loop-ending-init c =
     (record { going = run_begins _ _ _ c.requires.begins.0.keeps c.requires.begins.0.tape_passes; shown = c.mark-front.ensures }, (c.requires.workspace.space, omega (arith, c.mark-front, c.requires.begins.1)))
 
-pub advance-advanced-requires : goal.advance-advanced-requires
-advance-advanced-requires c =
-    record {
-      counted = c.requires.counted;
-      workspace = record { codes = c.requires.workspace.codes; space = c.loop-ending.invariant.1.0 };
-      stands = record { start = _; stands = c.loop-ending.invariant.0 };
-    }
-
-pub returns-in-Over : goal.returns-in-Over
-returns-in-Over c =
-    rw c.in-Over.is at (c.advance-advanced.ensures.of _ c.loop-ending.invariant.0.going)
-
 pub loop-ending-smaller : goal.loop-ending-smaller
 loop-ending-smaller c =
     let e = rw c.in-On.is at (c.advance-advanced.ensures.of _ c.loop-ending.invariant.0.going) in

@@ -13,9 +13,9 @@ use Rattle.marks.specs.Marks.{paint, to_one}
 use Rattle.marks.proofs.cone.mark_child.Goals as goal
 
 -- a mark written anew is painted or stays
-paint-one : (p : ℕ → Bool) (x : ℕ) (w : List ℕ) → set w x (cond (p x) 1 (get_or w x 0)) ≡ paint to_one (select p (x ∷ [])) w
+paint_one : (p : ℕ → Bool) (x : ℕ) (w : List ℕ) → set w x (cond (p x) 1 (get_or w x 0)) ≡ paint to_one (select p (x ∷ [])) w
 unfolding paint
-paint-one p x w = elim (which (p x)) [
+paint_one p x w = elim (which (p x)) [
   | inl q ↦ rw q
   | inr q ↦ rw q (set-get_or w x 0)
 ]
@@ -24,4 +24,4 @@ pub returns : goal.returns
 returns c =
     let a = c.args in
     rw (c.child_mark.ensures, c.relevant.ensures)
-    (paint-one (λ y. relevant (kind_of a.kind) a.v (on a.s.now y)) a.x a.marks.now)
+    (paint_one (λ y. relevant (kind_of a.kind) a.v (on a.s.now y)) a.x a.marks.now)

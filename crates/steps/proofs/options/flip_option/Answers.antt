@@ -22,14 +22,14 @@ loop-j-preserved c =
     let i = c.args.i in
     let j = c.loop-j.j in
     let in_map : g < gate_count m = omega (arith, c.requires.g_lt_gates, c.requires.counted.gates) in
-    let in-fan : j < fan_in m g = omega (arith, c.loop-j-test, c.fan_in-fan.ensures) in
+    let in_fan : j < fan_in m g = omega (arith, c.loop-j-test, c.fan_in-fan.ensures) in
     -- whether the option turns the child
     let h : option_turns (kind_of c.kind-kind.result) (on s g) i j (on c.loop-j.s c.kid-x.result) ≡ option_has m s g i j =
-    rw (c.kind-kind.ensures, c.kid-x.ensures.is, c.loop-j.invariant.1.0.are) (flips_sees m s g i c.requires.counted.is in_map j in-fan) in (
+    rw (c.kind-kind.ensures, c.kid-x.ensures.is, c.loop-j.invariant.1.0.are) (flips_sees m s g i c.requires.counted.is in_map j in_fan) in (
       omega arith,
       (
         record {
-          are = c.flip_child-turned.ensures.0 ∙ rw (h, c.kid-x.ensures.is, c.loop-j.invariant.1.0.are) (flips_more m s g i c.requires.counted.is in_map j in-fan);
+          are = c.flip_child-turned.ensures.0 ∙ rw (h, c.kid-x.ensures.is, c.loop-j.invariant.1.0.are) (flips_more m s g i c.requires.counted.is in_map j in_fan);
           counted = omega (arith, flips_count m s g i j, c.flip_child-turned.ensures.1.0 ∙ ap byte h, c.loop-j.invariant.1.0.counted);
         },
         (omega arith, omega (arith, c.flip_child-turned)),
