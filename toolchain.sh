@@ -33,3 +33,8 @@ need_cargo() {
     command -v cargo >/dev/null 2>&1 || PATH="$PATH:${CARGO_HOME:-$HOME/.cargo}/bin"
     need cargo cargo
 }
+
+# sources FIND-WORDS..: find over the files that the proofs and programs are made of.
+sources() {
+    find crates.txt crates \( -name must-fail -o -name out \) -prune -o -type f "$@"
+}

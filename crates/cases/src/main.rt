@@ -3,105 +3,103 @@
 // tape), for the last two also two u16 (how often the tape is repeated, and the length of the answer memory), the map, the body, the tape.
 #![tactic(auto)]
 
-ghost use Rattle.std.specs.Prelude.{◌≤◌, ◌<◌, length};
+ghost use Rattle.std.specs.Prelude.{◌≤◌, ◌<◌, IfOk, length};
 
 use circuit::{Ending, Outcome};
-use libc::{STDIN_FILENO, STDOUT_FILENO};
 use line::LINE_ROOM;
 use map::Checked;
 use search::Moved;
 use state::{Marked, Written};
+use std::io;
+use std::io::{ErrorKind, Read};
 use survey::Surveyed;
 
-fn print_number(n: usize) {
-    io::write_all(STDOUT_FILENO, b" ");
-    io::print_decimal(STDOUT_FILENO, n as u64);
+fn print_number(rt: &impl Print, n: usize) -> io::Result<()> {
+    print!(rt; " {n}")
 }
 
-fn print_refused(n: u8) {
-    io::write_all(STDOUT_FILENO, b"REFUSED ");
-    io::print_decimal(STDOUT_FILENO, n as u64);
+fn print_refused(rt: &impl Print, n: u8) -> io::Result<()> {
+    print!(rt; "REFUSED {n}")
 }
 
-fn print_counts(word: &[u8], moves: u16, flips: u32) {
-    io::write_all(STDOUT_FILENO, word);
-    print_number(moves as usize);
-    print_number(flips as usize);
+fn print_counts(rt: &impl Print, word: &[u8], moves: u16, flips: u32) -> io::Result<()> {
+    rt.write_all(word)?;
+    print_number(rt, moves as usize)?;
+    print_number(rt, flips as usize)
 }
 
-fn print_byte(b: u8) {
-    io::print_hex(STDOUT_FILENO, b as u64, 2);
+fn print_byte(rt: &impl Print, b: u8) -> io::Result<()> {
+    print!(rt; "{b:02x}")
 }
 
-fn print_memory(out: &[u8]) {
+fn print_memory(rt: &impl Print, out: &[u8]) -> io::Result<()> {
     if out.len() == 0 {
-        return;
+        return Ok(());
     }
-    io::write_all(STDOUT_FILENO, b" ");
+    rt.write_all(b" ")?;
     let mut i = 0;
     while i < out.len() {
-        print_byte(out[i]);
+        print_byte(rt, out[i])?;
         i += 1;
     }
+    Ok(())
 }
 
-fn check(map: &[u8]) {
+fn check(rt: &impl Print, map: &[u8]) -> io::Result<()> {
     match map::check(map) {
         Checked::Accepted(counts) => {
-            io::write_all(STDOUT_FILENO, b"OK");
-            print_number(counts.gates);
-            print_number(counts.inputs);
-            print_number(counts.children);
-            print_number(counts.codes);
+            rt.write_all(b"OK")?;
+            print_number(rt, counts.gates)?;
+            print_number(rt, counts.inputs)?;
+            print_number(rt, counts.children)?;
+            print_number(rt, counts.codes)
         }
-        Checked::Refused(n) => print_refused(n),
+        Checked::Refused(n) => print_refused(rt, n),
     }
 }
 
-fn children(map: &[u8], body: &[u8]) {
-    io::write_all(STDOUT_FILENO, b"CHILDREN");
+fn children(rt: &impl Print, map: &[u8], body: &[u8]) -> io::Result<()> {
+    rt.write_all(b"CHILDREN")?;
     if body.len() < 2 {
-        return;
+        return Ok(());
     }
     let part = map::children(map, map::decode::word(body, 0));
     let mut i = 0;
     while i + 1 < part.len() {
-        print_number(map::decode::word(part, i));
+        print_number(rt, map::decode::word(part, i))?;
         i += 2;
     }
+    Ok(())
 }
 
-fn evaluate(map: &[u8], row: &[u8], out: &mut [u8]) {
+fn evaluate(rt: &impl Print, map: &[u8], row: &[u8], out: &mut [u8]) -> io::Result<()> {
     match state::evaluate(map, row, out) {
-        Written::Done => {
-            io::write_all(STDOUT_FILENO, b"DONE");
-        }
-        Written::Refused(k) => print_refused(k),
+        Written::Done => rt.write_all(b"DONE"),
+        Written::Refused(k) => print_refused(rt, k),
     }
 }
 
-fn survey(map: &[u8], configuration: &[u8], out: &mut [u8]) {
+fn survey(rt: &impl Print, map: &[u8], configuration: &[u8], out: &mut [u8]) -> io::Result<()> {
     match survey::survey(map, configuration, out) {
         Surveyed::Done(sizes) => {
-            io::write_all(STDOUT_FILENO, b"SIZES");
-            print_number(sizes.front as usize);
-            print_number(sizes.interest as usize);
+            rt.write_all(b"SIZES")?;
+            print_number(rt, sizes.front as usize)?;
+            print_number(rt, sizes.interest as usize)
         }
-        Surveyed::Refused(k) => print_refused(k),
+        Surveyed::Refused(k) => print_refused(rt, k),
     }
 }
 
-fn call(op: u8, map: &[u8], body: &[u8], out: &mut [u8]) {
+fn call(rt: &impl Print, op: u8, map: &[u8], body: &[u8], out: &mut [u8]) -> io::Result<()> {
     if op == b'e' {
-        evaluate(map, body, out);
-        return;
+        return evaluate(rt, map, body, out);
     }
-    survey(map, body, out);
+    survey(rt, map, body, out)
 }
 
-fn write_into(op: u8, map: &[u8], body: &[u8], out: &mut [u8]) {
-    call(op, map, body, out);
-    print_memory(out);
+fn write_into(rt: &impl Print, op: u8, map: &[u8], body: &[u8], out: &mut [u8]) -> io::Result<()> {
+    call(rt, op, map, body, out)?;
+    print_memory(rt, out)
 }
 
 fn at_most_2048(n: usize) -> usize
@@ -114,21 +112,17 @@ fn at_most_2048(n: usize) -> usize
 }
 
 // A call that writes, into lent memory of which every byte is 170.
-fn write(op: u8, map: &[u8], body: &[u8], room: usize) {
+fn write(rt: &impl Print, op: u8, map: &[u8], body: &[u8], room: usize) -> io::Result<()> {
     let mut memory = [170u8; 2048];
     let n = at_most_2048(room);
-    write_into(op, map, body, &mut memory[..n]);
+    write_into(rt, op, map, body, &mut memory[..n])
 }
 
-fn mark(map: &[u8], configuration: &[u8]) {
+fn mark(rt: &impl Print, map: &[u8], configuration: &[u8]) -> io::Result<()> {
     match state::mark(map, configuration) {
-        Marked::Yes => {
-            io::write_all(STDOUT_FILENO, b"YES");
-        }
-        Marked::No => {
-            io::write_all(STDOUT_FILENO, b"NO");
-        }
-        Marked::Refused(n) => print_refused(n),
+        Marked::Yes => rt.write_all(b"YES"),
+        Marked::No => rt.write_all(b"NO"),
+        Marked::Refused(n) => print_refused(rt, n),
     }
 }
 
@@ -164,60 +158,85 @@ fn repeat(src: &[u8], times: usize, dst: &mut [u8], at: usize) -> usize
     end
 }
 
-fn print_configuration(configuration: &[u8]) {
+fn print_configuration(rt: &impl Print, configuration: &[u8]) -> io::Result<()> {
     if configuration.len() == 0 {
-        io::write_all(STDOUT_FILENO, b" -");
-        return;
+        return rt.write_all(b" -");
     }
-    print_memory(configuration);
+    print_memory(rt, configuration)
 }
 
-fn move_into(map: &[u8], configuration: &mut [u8], tape: &[u8], work: &mut [u8]) {
+fn move_into(
+    rt: &impl Print,
+    map: &[u8],
+    configuration: &mut [u8],
+    tape: &[u8],
+    work: &mut [u8],
+) -> io::Result<()> {
     match search::make_move(map, configuration, tape, work) {
         Moved::Done(turn) => {
-            io::write_all(STDOUT_FILENO, b"MOVED");
-            print_number(turn.gate);
-            print_number(turn.turned as usize);
+            rt.write_all(b"MOVED")?;
+            print_number(rt, turn.gate)?;
+            print_number(rt, turn.turned as usize)
         }
-        Moved::Refused(k) => print_refused(k),
+        Moved::Refused(k) => print_refused(rt, k),
     }
 }
 
-fn moved(map: &[u8], configuration: &mut [u8], tape: &[u8], work: &mut [u8]) {
-    move_into(map, configuration, tape, work);
-    print_configuration(configuration);
-    print_memory(work);
+fn moved(
+    rt: &impl Print,
+    map: &[u8],
+    configuration: &mut [u8],
+    tape: &[u8],
+    work: &mut [u8],
+) -> io::Result<()> {
+    move_into(rt, map, configuration, tape, work)?;
+    print_configuration(rt, configuration)?;
+    print_memory(rt, work)
 }
 
-fn make_move(map: &[u8], body: &[u8], tape: &[u8], room: usize) {
+fn make_move(rt: &impl Print, map: &[u8], body: &[u8], tape: &[u8], room: usize) -> io::Result<()> {
     let mut memory = [170u8; 2048];
     let n = at_most_2048(room);
     let mut space = [0u8; 65536];
     let k = append(body, &mut space, 0);
-    moved(map, &mut space[..k], tape, &mut memory[..n]);
+    moved(rt, map, &mut space[..k], tape, &mut memory[..n])
 }
 
-fn print_outcome(outcome: Outcome) {
+fn print_outcome(rt: &impl Print, outcome: Outcome) -> io::Result<()> {
     let ending = outcome.ending;
     match ending {
-        Ending::Found => print_counts(b"FOUND", outcome.moves, outcome.flips),
+        Ending::Found => print_counts(rt, b"FOUND", outcome.moves, outcome.flips),
         Ending::Spent(front) => {
-            print_counts(b"SPENT", outcome.moves, outcome.flips);
-            print_number(front as usize);
+            print_counts(rt, b"SPENT", outcome.moves, outcome.flips)?;
+            print_number(rt, front as usize)
         }
-        Ending::Stuck => print_counts(b"STUCK", outcome.moves, outcome.flips),
-        Ending::Refused(k) => print_refused(k),
+        Ending::Stuck => print_counts(rt, b"STUCK", outcome.moves, outcome.flips),
+        Ending::Refused(k) => print_refused(rt, k),
     }
 }
 
-fn run_into(map: &[u8], configuration: &mut [u8], tape: &[u8], work: &mut [u8], answer: &mut [u8]) {
-    print_outcome(search::run(map, configuration, tape, work, answer));
-    print_configuration(configuration);
-    print_configuration(work);
-    print_configuration(answer);
+fn run_into(
+    rt: &impl Print,
+    map: &[u8],
+    configuration: &mut [u8],
+    tape: &[u8],
+    work: &mut [u8],
+    answer: &mut [u8],
+) -> io::Result<()> {
+    print_outcome(rt, search::run(map, configuration, tape, work, answer))?;
+    print_configuration(rt, configuration)?;
+    print_configuration(rt, work)?;
+    print_configuration(rt, answer)
 }
 
-fn run(map: &[u8], body: &[u8], tape: &[u8], room: usize, answer: usize) {
+fn run(
+    rt: &impl Print,
+    map: &[u8],
+    body: &[u8],
+    tape: &[u8],
+    room: usize,
+    answer: usize,
+) -> io::Result<()> {
     let mut work_memory = [170u8; 2048];
     let mut answer_memory = [170u8; 2048];
     let w = at_most_2048(room);
@@ -225,24 +244,27 @@ fn run(map: &[u8], body: &[u8], tape: &[u8], room: usize, answer: usize) {
     let mut space = [0u8; 65536];
     let k = append(body, &mut space, 0);
     run_into(
+        rt,
         map,
         &mut space[..k],
         tape,
         &mut work_memory[..w],
         &mut answer_memory[..a],
-    );
+    )
 }
 
 // Without its line end, which every case gets.
-fn program(input: &[u8]) {
+fn program(rt: &impl Print, input: &[u8]) -> io::Result<()> {
     let mut out = [0u8; LINE_ROOM];
     let n = line::line(input, &mut out);
     if n > 0 {
-        io::write_all(STDOUT_FILENO, &out[..n - 1]);
+        rt.write_all(&out[..n - 1])?;
     }
+    Ok(())
 }
 
 fn long_case(
+    rt: &impl Print,
     op: u8,
     map: &[u8],
     body: &[u8],
@@ -250,20 +272,20 @@ fn long_case(
     room: usize,
     times: usize,
     answer: usize,
-) {
+) -> io::Result<()> {
     let mut space = [0u8; 66000];
     if op == b'r' {
         let n = repeat(tape, times, &mut space, 0);
-        run(map, body, &space[..n], room, answer);
-        return;
+        return run(rt, map, body, &space[..n], room, answer);
     }
     let a = append(map, &mut space, 0);
     let b = append(body, &mut space, a);
     let n = repeat(tape, times, &mut space, b);
-    program(&space[..n]);
+    program(rt, &space[..n])
 }
 
 fn one_case(
+    rt: &impl Print,
     op: u8,
     map: &[u8],
     body: &[u8],
@@ -271,16 +293,16 @@ fn one_case(
     room: usize,
     times: usize,
     answer: usize,
-) {
+) -> io::Result<()> {
     match op {
-        b'c' => check(map),
-        b'k' => children(map, body),
-        b'e' | b's' => write(op, map, body, room),
-        b'v' => make_move(map, body, tape, room),
-        b'r' | b'p' => long_case(op, map, body, tape, room, times, answer),
-        _ => mark(map, body),
-    }
-    io::write_all(STDOUT_FILENO, b"\n");
+        b'c' => check(rt, map),
+        b'k' => children(rt, map, body),
+        b'e' | b's' => write(rt, op, map, body, room),
+        b'v' => make_move(rt, map, body, tape, room),
+        b'r' | b'p' => long_case(rt, op, map, body, tape, room, times, answer),
+        _ => mark(rt, map, body),
+    }?;
+    rt.write_all(b"\n")
 }
 
 // The length of a case's header.
@@ -317,23 +339,24 @@ fn extra(rest: &[u8], head: usize, at: usize) -> usize
 }
 
 // Runs the case that stands first. Returns its length, or 0 where no whole case stands.
-fn first_case(s: &[u8]) -> usize
-    ensures { result ≤ length s.now }
+fn first_case(rt: &impl Print, s: &[u8]) -> io::Result<usize>
+    ensures { IfOk result (λ n. n ≤ length s.now) }
 {
     if s.len() < 7 {
-        return 0;
+        return Ok(0);
     }
     let head = header(s[0]);
     if s.len() < head {
-        return 0;
+        return Ok(0);
     }
     let body = head + map::decode::word(s, 1);
     let tape = body + map::decode::word(s, 3);
     let end = tape + tape_length(s, head);
     if s.len() < end {
-        return 0;
+        return Ok(0);
     }
     one_case(
+        rt,
         s[0],
         &s[head..body],
         &s[body..tape],
@@ -341,25 +364,53 @@ fn first_case(s: &[u8]) -> usize
         map::decode::word(s, 5),
         extra(s, head, 11),
         extra(s, head, 13),
-    );
-    end
+    )?;
+    Ok(end)
 }
 
-fn all_cases(s: &[u8]) {
+fn all_cases(rt: &impl Print, s: &[u8]) -> io::Result<()> {
     let mut rest = s;
     let mut turns = s.len();
     while turns > 0 {
-        let end = first_case(rest);
+        let end = first_case(rt, rest)?;
         if end == 0 {
-            return;
+            return Ok(());
         }
         rest = &rest[end..];
         turns -= 1;
     }
+    Ok(())
 }
 
-fn main() {
-    let mut buf = [0u8; 524288];
-    let n = io::read_full(STDIN_FILENO, &mut buf);
-    all_cases(&buf[..n]);
+// Reads until `buf` is full or the input ends, however small the pieces in which it comes. Returns how many bytes it read: they are the first of `buf`.
+fn read_full(input: &mut impl Read, buf: &mut [u8]) -> io::Result<usize>
+    ensures { IfOk result (λ n. n ≤ length buf.new) }
+{
+    let mut done = 0;
+    for _ in 0..u64::MAX {
+        if done == buf.len() {
+            break;
+        }
+        match input.read(&mut buf[done..]) {
+            Ok(0) => break,
+            Ok(n) => done += n,
+            Err(e) => {
+                if e.kind() != ErrorKind::Interrupted {
+                    return Err(e);
+                }
+            }
+        }
+    }
+    Ok(done)
+}
+
+// Reads into `buf`, and runs the cases that it holds.
+fn answer(rt: &(impl Input + Print), buf: &mut [u8]) -> io::Result<()> {
+    let n = read_full(&mut rt.reader(), buf)?;
+    all_cases(rt, &buf[..n])
+}
+
+fn main(rt: HostRuntime) -> io::Result<()> {
+    let mut buf = vec![in rt.alloc(); 0u8; 524288]?;
+    answer(&rt, &mut buf)
 }
