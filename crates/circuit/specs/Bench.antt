@@ -165,7 +165,7 @@ pub record Examples : Type 0 where
   pub found_without_entry : run adder B [] ≡ stop Found B
   pub found_at_once : run adder B (entry (Down 0) ∷ []) ≡ stop Found B
   -- P9: each entry works on what the one before left; flips counts the values turned, 2 and then 1.
-  pub two-moves :
+  pub two_moves :
       run circuit_p9 (0 ∷ 0 ∷ 1 ∷ []) (entry (Down 0) ∷ entry (Down 0) ∷ [])
       ≡ record { outcome = record { ending = Spent 1; moves = 2; flips = 3 }; last = 0 ∷ 1 ∷ 1 ∷ [] }
   -- F-1: numbering and modulo run over the options left, here those of gates 1 and 2; greedy's too.

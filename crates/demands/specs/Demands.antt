@@ -1,4 +1,4 @@
--- Document 00's demands, on bytes: about the definitions that the calls' contracts cite. Demands 2 and 3 speak of `runEffect`, Run's. Assumes nothing.
+-- Document 00's demands, on bytes: about the definitions that the calls' contracts cite. Demands 2 and 3 speak of `run_effect`, Run's. Assumes nothing.
 use Rattle.std.specs.Prelude.{ℕ, ◌*◌, ◌/◌, ◌%◌, ◌≤◌, ◌<◌, ◌≡◌, true, false, cond, length, get_or, take, drop}
 use mathlib.Core.List.{List, [], ◌∷◌, map, Memᴰ as In}
 use Rattle.circuit.specs.declared.Entry.{Entry}
@@ -75,7 +75,7 @@ pub record FoundWrites (m last ans after : List ℕ) : Type 0 where
 --     stuck                 "with that entry undone and uncounted": the entry behind those counted is stuck on the configuration that is left
 --     bounds                how large these numbers may become
 --     surveyed              "the first bytes of the work memory, one per gate, are its survey"; the surplus stands
---     found, not-found      what the answer memory holds
+--     found, not_found      what the answer memory holds
 pub record RunMeans (m s tape work ans : List ℕ) (r : RunEffect) : Type 0 where
   pub start : IsStart m s
   pub entries_are : length tape ≡ 4 * length (entries tape)

@@ -1,4 +1,4 @@
--- A gate's options, by the places of its children. A new kind is a new clause of `options-by`. Assumes nothing.
+-- A gate's options, by the places of its children. A new kind is a new clause of `options_by`. Assumes nothing.
 use Prim.Native.Nat.{ℕ, zero, suc, ◌<◌}
 use mathlib.Core.Path.{◌≡◌, refl, sym, ap, ◌∙◌}
 use mathlib.Core.Logic.{inl, inr}

@@ -1,4 +1,4 @@
--- What a kind makes of how many of its children are at 1: a new kind is a new clause of `gives-count`. Assumes nothing.
+-- What a kind makes of how many of its children are at 1: a new kind is a law more. Assumes nothing.
 use Prim.Native.Nat.{ℕ, zero, suc, ◌+◌, ◌%◌, ◌≤◌}
 use mathlib.Core.Path.{◌≡◌, refl, sym, ap, ◌∙◌}
 use mathlib.Core.Logic.{inl, inr}

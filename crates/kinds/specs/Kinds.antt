@@ -26,7 +26,7 @@ abbrev pub GivesBy : ℕ → ℕ → ℕ → Bool → Type 0
 GivesBy k n ones v = (vs : List Bool) → length vs ≡ n → count_on vs ≡ ones → v ≡ gives (kind_of k) vs
 
 -- A gate's down options by the places of its children: how many a gate of this kind with value v and n children has, and whether option i turns child
--- j, whose value is x. That these are `options` of Gate.antt is `options-by` of proofs/ByPlace.antt.
+-- j, whose value is x. That these are `options` of Gate.antt is `options_by` of proofs/ByPlace.antt.
 abbrev pub option_count : Kind → Bool → ℕ → ℕ
 option_count Input v n = 0
 option_count Not v n = n

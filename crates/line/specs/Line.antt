@@ -148,6 +148,6 @@ pub record LineEffect : Type 0 where
 abbrev pub line_answer : ℕ → List ℕ → LineEffect
 line_answer n w = record { size = n; out = w }
 
--- the line stands in the first bytes of the memory and the surplus is untouched; where memory is shorter than `lineRoom` nothing is written, and the size is 0
+-- the line stands in the first bytes of the memory and the surplus is untouched; where memory is shorter than `line_room` nothing is written, and the size is 0
 unfoldable pub line_effect : List ℕ → List ℕ → LineEffect
 line_effect x out = cond (leb line_room (length out)) (line_answer (length (line_of x)) (over (line_of x) out)) (line_answer 0 out)
