@@ -4,3 +4,4 @@ pub mod Parts
 pub mod Answers
 pub mod Codes
 pub mod Described
+pub mod Contents

@@ -37,6 +37,7 @@ pub fn check(map: &[u8]) -> Checked
 }
 
 // The stretch of the map that holds a gate's children: empty for an input, a gate past the end or a map that Check refuses.
+#[tactic(auto, using(crate::proofs::Parts::no_map, crate::proofs::Parts::past_end, crate::proofs::Parts::has_gate_lem, crate::proofs::Parts::accepted_long, crate::proofs::Parts::accepted_few, crate::proofs::Parts::accepted_given, crate::proofs::Parts::accepted_within), unfolding(crate::specs::Children::children_answer, crate::specs::Children::children_effect, crate::specs::Children::stretch_place, crate::specs::Children::stretch_length))]
 pub fn children(map: &[u8], gate: usize) -> &[u8]
     ensures { children_answer result ≡ children_effect map.entry gate }
 {

@@ -186,6 +186,7 @@ fn codes_ok(map: &[u8], n: Contents, start: usize) -> bool
 }
 
 // The first of the tests 2 and 3 that fails, or 0.
+#[tactic(auto, using(crate::proofs::Contents::no_gate, crate::proofs::Contents::many_gates, crate::proofs::Contents::wrong_offsets, crate::proofs::Contents::contents_pass))]
 fn contents_failed(map: &[u8], n: Contents) -> u8
     requires in_bounds { 12 ≤ length map.now }
     requires contents_of { ContentsOf map.now n }
