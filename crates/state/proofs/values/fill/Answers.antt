@@ -17,7 +17,7 @@ pub loop-g-preserved : goal.loop-g-preserved
 loop-g-preserved c =
     let l = c.loop-g in
     let v = c.gate_value-v.result in
-    let e = rw (l.invariant.1.0, l.invariant.1.1.1.0) at c.gate_value-v.ensures in (
+    let e = simp (l.invariant.1.0, l.invariant.1.1.1.0) at c.gate_value-v.ensures in (
       omega arith,
       (
         rw (inputs_more c.args.map.now l.g, ← c.kind.ensures, ← c.input_bit-at.ensures.0, ← l.invariant.1.0),
