@@ -91,7 +91,7 @@ pub fn length_ok(tape: &[u8]) -> bool
 }
 
 // Test 13.
-#[tactic(auto, using(folds::proofs::Loops::loops), unfolding(crate::specs::Tape::entry_kinds_test))]
+#[tactic(auto, using(folds::proofs::Loops::loops, crate::proofs::KindLoop::kind_above), unfolding(crate::specs::Tape::entry_kinds_test))]
 pub fn kinds_ok(tape: &[u8]) -> bool
     ensures { result ≡ entry_kinds_test tape.now }
 {
