@@ -58,6 +58,7 @@ fn down(map: &[u8], counts: Counts, g: usize, i: u8, coded: &[u8], s: &mut [u8])
 }
 
 // Turns gate g itself, without a search for options, or if it is coded as down does. Returns how many values.
+#[tactic(auto, using(map::proofs::Laws::mark_none, map::proofs::Laws::mark_some), unfolding(circuit::specs::Run::chosen))]
 fn up(map: &[u8], counts: Counts, g: usize, i: u8, coded: &[u8], s: &mut [u8]) -> u32
     requires counted { Counted map.now counts }
     requires drawable { Drawable map.now counts.gates s.old g × (counts.gates ≡ length s.old) }
