@@ -30,6 +30,7 @@ pub enum Advanced {
 }
 
 // One step of a run that stands at p: it ends, or does the next entry. An entry that turns nothing is stuck, and all is as it was. The marks are the cone and front of s, before and after.
+#[tactic(auto, using(crate::proofs::Advancing::found_advances, crate::proofs::Advancing::stuck_advances, crate::proofs::Advancing::step_next))]
 pub fn advance(
     map: &[u8],
     counts: Counts,
