@@ -5,3 +5,4 @@ pub mod Answers
 pub mod Codes
 pub mod Described
 pub mod Contents
+pub mod CodeTest

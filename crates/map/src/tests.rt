@@ -149,6 +149,7 @@ fn code_ascends(map: &[u8], start: usize, r: usize, x: usize) -> bool
 }
 
 // Test 7 at code r.
+#[tactic(auto, using(crate::proofs::CodeTest::code_past_end, crate::proofs::CodeTest::code_falls, crate::proofs::CodeTest::code_high, crate::proofs::CodeTest::code_by_zero))]
 fn code_ok(map: &[u8], n: Contents, start: usize, r: usize) -> bool
     requires contents_of { ContentsOf map.now n }
     requires shaped { Shaped map.now × ((start ≡ codes_place map.now) × (r < n.codes)) }
