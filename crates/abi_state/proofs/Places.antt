@@ -4,7 +4,7 @@ use mathlib.Core.Path.{◌≡◌, refl, ap}
 use mathlib.Core.List.{List, [], ◌∷◌}
 use native.Mathlib.Omega.{arith}
 use lib.ListN.{length, get_or, set}
-use Rattle.abi_state.specs.Numbers.{placed, PlacedMeans, PlacedIs}
+use Rattle.abi_state.specs.Numbers.{placed, PlacedIs}
 
 -- past the end nothing is set
 pub set_past : (ns : List ℕ) (i x : ℕ) → length ns ≤ i → ns ≡ set ns i x

@@ -32,7 +32,7 @@ use Rattle.search.proofs.Endings.{stuck_alone}
 use Rattle.demands.proofs.Runs.{found_accepted, stuck_accepted}
 use Rattle.demands.proofs.Demands.{same_for_all_memories}
 use Rattle.line.specs.Text.{AreBytes, decimal_in, decimal, read_on, read_decimal, DecimalReads}
-use Rattle.line.specs.Line.{most_input, configuration_place, tape_place, map_part, configuration_part, tape_part, input_test, lent, row_text, report, effect_line, run_line, line_of, input_of, LinesAre, ExactInput, three_bodies, refused_0, EveryInput, SameLineForAllMemories, line_room, LineFits}
+use Rattle.line.specs.Line.{most_input, configuration_place, tape_place, map_part, configuration_part, tape_part, input_test, lent, row_text, report, effect_line, run_line, input_of, LinesAre, ExactInput, three_bodies, refused_0, EveryInput, SameLineForAllMemories, line_room, LineFits}
 use Rattle.line.proofs.Rows.{same_row}
 use Rattle.line.proofs.Lines.{found_shaped, Whole, whole, line_refused, line_runs, map_part_lem, configuration_part_lem, tape_part_lem, parts_whole}
 
