@@ -411,6 +411,6 @@ fn answer(rt: &(impl Input + Print), buf: &mut [u8]) -> io::Result<()> {
 }
 
 fn main(rt: HostRuntime) -> io::Result<()> {
-    let mut buf = vec![in rt.alloc(); 0u8; 524288]?;
+    let mut buf = [0u8; 524288];
     answer(&rt, &mut buf)
 }
