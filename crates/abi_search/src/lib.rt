@@ -9,9 +9,9 @@ ghost use Rattle.abi_search.specs.Numbers.{move_for_host, run_for_host};
 
 use abi_state::place;
 use circuit::Ending;
-use search::Moved;
 
 // Move. Numbers: the drawn gate, how many values it turned: 0 where it is stuck.
+#[tactic(auto, unfolding(search::specs::Move::move_answer))]
 #[unsafe(no_mangle)]
 pub extern "C" fn peeriewick_move(
     map: &[u8],
@@ -25,12 +25,13 @@ pub extern "C" fn peeriewick_move(
         numbers.old }
 {
     match search::make_move(map, configuration, entry, work) {
-        Moved::Refused(k) => k,
-        Moved::Done(t) => place::two(numbers, t.gate, t.turned as usize),
+        Ok(report) => place::place(numbers, &[report.gate, report.turned as usize]),
+        Err(refusal) => u8::from(refusal),
     }
 }
 
 // Run. Numbers: 1 for Found, 2 for Stuck and 0 for Spent, moves, flips, the front's size.
+#[tactic(auto, unfolding(search::specs::Run::run_answer))]
 #[unsafe(no_mangle)]
 pub extern "C" fn peeriewick_run(
     map: &[u8],
@@ -45,13 +46,12 @@ pub extern "C" fn peeriewick_run(
         numbers.old }
 {
     let outcome = search::run(map, configuration, tape, work, answer);
-    let ending = outcome.ending;
-    let moves = outcome.moves as usize;
+    let moves = usize::from(outcome.moves);
     let flips = outcome.flips as usize;
-    match ending {
-        Ending::Refused(k) => k,
-        Ending::Found => place::four(numbers, 1, moves, flips, 0),
-        Ending::Stuck => place::four(numbers, 2, moves, flips, 0),
-        Ending::Spent(front) => place::four(numbers, 0, moves, flips, front as usize),
+    match outcome.ending {
+        Ending::Refused(refusal) => u8::from(refusal),
+        Ending::Found => place::place(numbers, &[1, moves, flips, 0]),
+        Ending::Stuck => place::place(numbers, &[2, moves, flips, 0]),
+        Ending::Spent(front) => place::place(numbers, &[0, moves, flips, usize::from(front)]),
     }
 }

@@ -1,3 +1,2 @@
 pub mod Places
-pub mod Stretches
 pub mod Zero

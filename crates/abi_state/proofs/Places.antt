@@ -1,35 +1,22 @@
--- Numbers in lent places, put one by one. Assumes nothing.
-use Prim.Native.Nat.{ℕ, zero, suc, ◌<◌, ◌≤◌}
-use mathlib.Core.Path.{◌≡◌, refl, ap}
-use mathlib.Core.List.{List, [], ◌∷◌}
-use native.Mathlib.Omega.{arith}
-use lib.ListN.{length, get_or, set}
+-- Numbers in lent places. Assumes nothing.
+use Rattle.std.proofs.Common.{ℕ, zero, suc, ◌+◌, ◌<◌, ◌≤◌, ◌≡◌, List, [], ◌∷◌, length, get_or, set, take, refl, ap, arith, add-one}
 use Rattle.abi_state.specs.Numbers.{placed, PlacedIs}
 
--- past the end nothing is set
-pub set_past : (ns : List ℕ) (i x : ℕ) → length ns ≤ i → ns ≡ set ns i x
-set_past [] i x h = refl
-set_past (n ∷ ns) zero x h = absurd (omega arith)
-set_past (n ∷ ns) (suc i) x h = ap (λ (t : List ℕ). n ∷ t) (set_past ns i x (omega arith))
-
-pub placed_one : (ns : List ℕ) (a : ℕ) → set ns 0 a ≡ placed (a ∷ []) ns
+-- no number yet, and one more
+pub placed_none : (xs ns : List ℕ) → placed (take 0 xs) ns ≡ ns
 unfolding placed
-placed_one [] a = refl
-placed_one (n ∷ ns) a = refl
+placed_none xs ns = refl
 
-pub placed_two : (ns : List ℕ) (a b : ℕ) → set (set ns 0 a) 1 b ≡ placed (a ∷ b ∷ []) ns
+next : (xs ns : List ℕ) (i : ℕ) → i < length xs → set (placed (take i xs) ns) i (get_or xs i 0) ≡ placed (take (suc i) xs) ns
 unfolding placed
-placed_two [] a b = refl
-placed_two (n ∷ []) a b = refl
-placed_two (n ∷ m ∷ ns) a b = refl
+next [] ns i l = absurd (omega arith)
+next (x ∷ xs) [] zero l = refl
+next (x ∷ xs) [] (suc i) l = refl
+next (x ∷ xs) (n ∷ ns) zero l = refl
+next (x ∷ xs) (n ∷ ns) (suc i) l = ap (λ (t : List ℕ). x ∷ t) (next xs ns i (omega arith))
 
-pub placed_four : (ns : List ℕ) (a b c d : ℕ) → set (set (set (set ns 0 a) 1 b) 2 c) 3 d ≡ placed (a ∷ b ∷ c ∷ d ∷ []) ns
-unfolding placed
-placed_four [] a b c d = refl
-placed_four (n ∷ []) a b c d = refl
-placed_four (n ∷ m ∷ []) a b c d = refl
-placed_four (n ∷ m ∷ k ∷ []) a b c d = refl
-placed_four (n ∷ m ∷ k ∷ j ∷ ns) a b c d = refl
+pub placed_next : (xs ns : List ℕ) (i : ℕ) → i < length xs → set (placed (take i xs) ns) i (get_or xs i 0) ≡ placed (take (i + 1) xs) ns
+placed_next xs ns i l = rw (add-one i) (next xs ns i l)
 
 -- ---- what it means
 

@@ -10,17 +10,18 @@ ghost use Rattle.map.specs.Check.{check_effect};
 ghost use Rattle.state.specs.State.{evaluate_effect, mark_effect};
 ghost use Rattle.abi_state.specs.Numbers.{host_answer, check_for_host, children_numbers, evaluate_for_host, mark_for_host};
 
-use map::Checked;
-use state::{Marked, Written};
-
 // Check. Numbers: gates, inputs, children, codes.
+#[tactic(auto, unfolding(map::specs::Check::check_answer))]
 #[unsafe(no_mangle)]
 pub extern "C" fn peeriewick_check(map: &[u8], numbers: &mut [usize]) -> u8
     ensures { host_answer result [] numbers.new ≡ check_for_host (check_effect map.now) numbers.old }
 {
     match map::check(map) {
-        Checked::Refused(k) => k,
-        Checked::Accepted(c) => place::four(numbers, c.gates, c.inputs, c.children, c.codes),
+        Ok(counts) => place::place(
+            numbers,
+            &[counts.gates, counts.inputs, counts.children, counts.codes],
+        ),
+        Err(refusal) => u8::from(refusal),
     }
 }
 
@@ -30,30 +31,31 @@ pub extern "C" fn peeriewick_children(map: &[u8], gate: usize, numbers: &mut [us
     ensures { numbers.new ≡ children_numbers map.now gate numbers.old }
 {
     let part = stretch::of(map, gate);
-    place::two(numbers, part.at, part.size);
+    place::place(numbers, &[part.at, part.size]);
 }
 
 // Evaluate.
+#[tactic(auto, unfolding(state::specs::State::evaluate_answer))]
 #[unsafe(no_mangle)]
 pub extern "C" fn peeriewick_evaluate(map: &[u8], row: &[u8], out: &mut [u8]) -> u8
     ensures { host_answer result (out.new ∷ []) []
         ≡ evaluate_for_host (evaluate_effect map.now row.now out.old) }
 {
     match state::evaluate(map, row, out) {
-        Written::Refused(k) => k,
-        Written::Done => 0,
+        Ok(()) => 0,
+        Err(refusal) => u8::from(refusal),
     }
 }
 
 // Mark. Numbers: 1 for yes, 0 for no.
+#[tactic(auto, unfolding(state::specs::State::mark_answer))]
 #[unsafe(no_mangle)]
 pub extern "C" fn peeriewick_mark(map: &[u8], configuration: &[u8], numbers: &mut [usize]) -> u8
     ensures { host_answer result [] numbers.new
         ≡ mark_for_host (mark_effect map.now configuration.now) numbers.old }
 {
     match state::mark(map, configuration) {
-        Marked::Refused(k) => k,
-        Marked::Yes => place::one(numbers, 1),
-        Marked::No => place::one(numbers, 0),
+        Ok(yes) => place::place(numbers, &[usize::from(yes)]),
+        Err(refusal) => u8::from(refusal),
     }
 }

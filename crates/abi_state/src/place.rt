@@ -1,5 +1,5 @@
 // Numbers of an answer, put where the host wants them.
-ghost use Rattle.std.specs.Prelude.{◌≡◌, [], ◌∷◌, set};
+ghost use Rattle.std.specs.Prelude.{◌≡◌, set};
 ghost use Rattle.abi_state.specs.Numbers.{placed};
 
 // Puts x at place i, if there is one.
@@ -11,28 +11,14 @@ fn put(numbers: &mut [usize], i: usize, x: usize)
     }
 }
 
-// Each returns 0, the number of an accepted call.
-pub fn one(numbers: &mut [usize], a: usize) -> u8
-    ensures { (result ≡ 0) × (numbers.new ≡ placed (a ∷ []) numbers.old) }
+// Puts the numbers of an answer into the first places, as many as there are. Returns 0, the number of an accepted call. (One by one: `copy_from_slice` asks the C library for memcpy, and
+// the archives ask it for memset alone.)
+#[tactic(auto, using(crate::proofs::Places::placed_none, crate::proofs::Places::placed_next))]
+pub fn place(numbers: &mut [usize], answer: &[usize]) -> u8
+    ensures { (result ≡ 0) × (numbers.new ≡ placed answer.now numbers.old) }
 {
-    put(numbers, 0, a);
-    0
-}
-
-pub fn two(numbers: &mut [usize], a: usize, b: usize) -> u8
-    ensures { (result ≡ 0) × (numbers.new ≡ placed (a ∷ b ∷ []) numbers.old) }
-{
-    put(numbers, 0, a);
-    put(numbers, 1, b);
-    0
-}
-
-pub fn four(numbers: &mut [usize], a: usize, b: usize, c: usize, d: usize) -> u8
-    ensures { (result ≡ 0) × (numbers.new ≡ placed (a ∷ b ∷ c ∷ d ∷ []) numbers.old) }
-{
-    put(numbers, 0, a);
-    put(numbers, 1, b);
-    put(numbers, 2, c);
-    put(numbers, 3, d);
+    for i in 0..answer.len() {
+        put(numbers, i, answer[i]);
+    }
     0
 }

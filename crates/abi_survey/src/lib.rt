@@ -7,9 +7,9 @@ ghost use Rattle.abi_state.specs.Numbers.{host_answer};
 ghost use Rattle.abi_survey.specs.Numbers.{survey_for_host};
 
 use abi_state::place;
-use survey::Surveyed;
 
 // Survey. Numbers: front, interest.
+#[tactic(auto, unfolding(survey::specs::Survey::survey_answer))]
 #[unsafe(no_mangle)]
 pub extern "C" fn peeriewick_survey(
     map: &[u8],
@@ -21,7 +21,10 @@ pub extern "C" fn peeriewick_survey(
         ≡ survey_for_host (survey_effect map.now configuration.now out.old) numbers.old }
 {
     match survey::survey(map, configuration, out) {
-        Surveyed::Refused(k) => k,
-        Surveyed::Done(z) => place::two(numbers, z.front as usize, z.interest as usize),
+        Ok(sizes) => place::place(
+            numbers,
+            &[usize::from(sizes.front), usize::from(sizes.interest)],
+        ),
+        Err(refusal) => u8::from(refusal),
     }
 }

@@ -3,169 +3,101 @@
 // tape), for the last two also two u16 (how often the tape is repeated, and the length of the answer memory), the map, the body, the tape.
 #![tactic(auto)]
 
-ghost use Rattle.std.specs.Prelude.{◌≤◌, ◌<◌, IfOk, length};
+ghost use Rattle.std.specs.Prelude.{◌≤◌, ◌<◌, IfSome, length};
 
-use circuit::{Ending, Outcome};
+use circuit::{Ending, Outcome, Refusal};
 use line::LINE_ROOM;
-use map::Checked;
-use search::Moved;
-use state::{Marked, Written};
+use map::word;
+use reading::read_full;
 use std::io;
-use std::io::{ErrorKind, Read};
-use survey::Surveyed;
 
-fn print_number(rt: &impl Print, n: usize) -> io::Result<()> {
-    print!(rt; " {n}")
+// A case, with the lengths that it gives to the output or work memory and to the answer memory.
+#[derive(Clone, Copy)]
+struct Case<'a> {
+    op: u8,
+    map: &'a [u8],
+    body: &'a [u8],
+    tape: &'a [u8],
+    room: usize,
+    times: usize,
+    answer: usize,
 }
 
-fn print_refused(rt: &impl Print, n: u8) -> io::Result<()> {
-    print!(rt; "REFUSED {n}")
+// Memory to lend: every byte is 170.
+const LENT: [u8; 2048] = [170; 2048];
+
+fn print_refused(rt: &impl Print, refusal: Refusal) -> io::Result<()> {
+    print!(rt; "REFUSED {}", u8::from(refusal))
 }
 
-fn print_counts(rt: &impl Print, word: &[u8], moves: u16, flips: u32) -> io::Result<()> {
-    rt.write_all(word)?;
-    print_number(rt, moves as usize)?;
-    print_number(rt, flips as usize)
-}
-
-fn print_byte(rt: &impl Print, b: u8) -> io::Result<()> {
-    print!(rt; "{b:02x}")
-}
-
-fn print_memory(rt: &impl Print, out: &[u8]) -> io::Result<()> {
-    if out.len() == 0 {
+// In hexadecimal behind a blank, or nothing where there are no bytes.
+fn print_memory(rt: &impl Print, bytes: &[u8]) -> io::Result<()> {
+    if bytes.is_empty() {
         return Ok(());
     }
-    rt.write_all(b" ")?;
-    let mut i = 0;
-    while i < out.len() {
-        print_byte(rt, out[i])?;
-        i += 1;
+    print!(rt; " ")?;
+    for b in bytes {
+        print!(rt; "{b:02x}")?;
     }
     Ok(())
 }
 
+// The same, with a dash where there are none.
+fn print_configuration(rt: &impl Print, configuration: &[u8]) -> io::Result<()> {
+    if configuration.is_empty() {
+        return print!(rt; " -");
+    }
+    print_memory(rt, configuration)
+}
+
 fn check(rt: &impl Print, map: &[u8]) -> io::Result<()> {
     match map::check(map) {
-        Checked::Accepted(counts) => {
-            rt.write_all(b"OK")?;
-            print_number(rt, counts.gates)?;
-            print_number(rt, counts.inputs)?;
-            print_number(rt, counts.children)?;
-            print_number(rt, counts.codes)
+        Ok(counts) => {
+            print!(rt;
+                "OK {} {} {} {}",
+                counts.gates, counts.inputs, counts.children, counts.codes
+            )
         }
-        Checked::Refused(n) => print_refused(rt, n),
+        Err(refusal) => print_refused(rt, refusal),
     }
 }
 
 fn children(rt: &impl Print, map: &[u8], body: &[u8]) -> io::Result<()> {
-    rt.write_all(b"CHILDREN")?;
+    print!(rt; "CHILDREN")?;
     if body.len() < 2 {
         return Ok(());
     }
-    let part = map::children(map, map::decode::word(body, 0));
-    let mut i = 0;
-    while i + 1 < part.len() {
-        print_number(rt, map::decode::word(part, i))?;
-        i += 2;
+    for child in map::children(map, word(body, 0)).chunks_exact(2) {
+        print!(rt; " {}", word(child, 0))?;
     }
     Ok(())
 }
 
 fn evaluate(rt: &impl Print, map: &[u8], row: &[u8], out: &mut [u8]) -> io::Result<()> {
     match state::evaluate(map, row, out) {
-        Written::Done => rt.write_all(b"DONE"),
-        Written::Refused(k) => print_refused(rt, k),
+        Ok(()) => print!(rt; "DONE"),
+        Err(refusal) => print_refused(rt, refusal),
+    }?;
+    print_memory(rt, out)
+}
+
+fn mark(rt: &impl Print, map: &[u8], configuration: &[u8]) -> io::Result<()> {
+    match state::mark(map, configuration) {
+        Ok(true) => print!(rt; "YES"),
+        Ok(false) => print!(rt; "NO"),
+        Err(refusal) => print_refused(rt, refusal),
     }
 }
 
 fn survey(rt: &impl Print, map: &[u8], configuration: &[u8], out: &mut [u8]) -> io::Result<()> {
     match survey::survey(map, configuration, out) {
-        Surveyed::Done(sizes) => {
-            rt.write_all(b"SIZES")?;
-            print_number(rt, sizes.front as usize)?;
-            print_number(rt, sizes.interest as usize)
-        }
-        Surveyed::Refused(k) => print_refused(rt, k),
-    }
-}
-
-fn call(rt: &impl Print, op: u8, map: &[u8], body: &[u8], out: &mut [u8]) -> io::Result<()> {
-    if op == b'e' {
-        return evaluate(rt, map, body, out);
-    }
-    survey(rt, map, body, out)
-}
-
-fn write_into(rt: &impl Print, op: u8, map: &[u8], body: &[u8], out: &mut [u8]) -> io::Result<()> {
-    call(rt, op, map, body, out)?;
+        Ok(sizes) => print!(rt; "SIZES {} {}", sizes.front, sizes.interest),
+        Err(refusal) => print_refused(rt, refusal),
+    }?;
     print_memory(rt, out)
 }
 
-fn at_most_2048(n: usize) -> usize
-    ensures { result ≤ 2048 }
-{
-    if 2048 < n {
-        return 2048;
-    }
-    n
-}
-
-// A call that writes, into lent memory of which every byte is 170.
-fn write(rt: &impl Print, op: u8, map: &[u8], body: &[u8], room: usize) -> io::Result<()> {
-    let mut memory = [170u8; 2048];
-    let n = at_most_2048(room);
-    write_into(rt, op, map, body, &mut memory[..n])
-}
-
-fn mark(rt: &impl Print, map: &[u8], configuration: &[u8]) -> io::Result<()> {
-    match state::mark(map, configuration) {
-        Marked::Yes => rt.write_all(b"YES"),
-        Marked::No => rt.write_all(b"NO"),
-        Marked::Refused(n) => print_refused(rt, n),
-    }
-}
-
-// Copies what fits behind place `at`. Returns the place behind it.
-fn append(src: &[u8], dst: &mut [u8], at: usize) -> usize
-    requires { at ≤ length dst.old }
-    ensures { result ≤ length dst.new }
-{
-    let mut end = at;
-    let mut i = 0;
-    while i < src.len() {
-        if dst.len() <= end {
-            return end;
-        }
-        dst[end] = src[i];
-        end += 1;
-        i += 1;
-    }
-    end
-}
-
-// The same so many times over.
-fn repeat(src: &[u8], times: usize, dst: &mut [u8], at: usize) -> usize
-    requires { at ≤ length dst.old }
-    ensures { result ≤ length dst.new }
-{
-    let mut end = at;
-    let mut left = times;
-    while left > 0 {
-        end = append(src, dst, end);
-        left -= 1;
-    }
-    end
-}
-
-fn print_configuration(rt: &impl Print, configuration: &[u8]) -> io::Result<()> {
-    if configuration.len() == 0 {
-        return rt.write_all(b" -");
-    }
-    print_memory(rt, configuration)
-}
-
-fn move_into(
+fn make_move(
     rt: &impl Print,
     map: &[u8],
     configuration: &mut [u8],
@@ -173,49 +105,25 @@ fn move_into(
     work: &mut [u8],
 ) -> io::Result<()> {
     match search::make_move(map, configuration, tape, work) {
-        Moved::Done(turn) => {
-            rt.write_all(b"MOVED")?;
-            print_number(rt, turn.gate)?;
-            print_number(rt, turn.turned as usize)
-        }
-        Moved::Refused(k) => print_refused(rt, k),
-    }
-}
-
-fn moved(
-    rt: &impl Print,
-    map: &[u8],
-    configuration: &mut [u8],
-    tape: &[u8],
-    work: &mut [u8],
-) -> io::Result<()> {
-    move_into(rt, map, configuration, tape, work)?;
+        Ok(turn) => print!(rt; "MOVED {} {}", turn.gate, turn.turned),
+        Err(refusal) => print_refused(rt, refusal),
+    }?;
     print_configuration(rt, configuration)?;
     print_memory(rt, work)
 }
 
-fn make_move(rt: &impl Print, map: &[u8], body: &[u8], tape: &[u8], room: usize) -> io::Result<()> {
-    let mut memory = [170u8; 2048];
-    let n = at_most_2048(room);
-    let mut space = [0u8; 65536];
-    let k = append(body, &mut space, 0);
-    moved(rt, map, &mut space[..k], tape, &mut memory[..n])
-}
-
 fn print_outcome(rt: &impl Print, outcome: Outcome) -> io::Result<()> {
-    let ending = outcome.ending;
-    match ending {
-        Ending::Found => print_counts(rt, b"FOUND", outcome.moves, outcome.flips),
-        Ending::Spent(front) => {
-            print_counts(rt, b"SPENT", outcome.moves, outcome.flips)?;
-            print_number(rt, front as usize)
-        }
-        Ending::Stuck => print_counts(rt, b"STUCK", outcome.moves, outcome.flips),
-        Ending::Refused(k) => print_refused(rt, k),
+    let moves = outcome.moves;
+    let flips = outcome.flips;
+    match outcome.ending {
+        Ending::Found => print!(rt; "FOUND {moves} {flips}"),
+        Ending::Spent(front) => print!(rt; "SPENT {moves} {flips} {front}"),
+        Ending::Stuck => print!(rt; "STUCK {moves} {flips}"),
+        Ending::Refused(refusal) => print_refused(rt, refusal),
     }
 }
 
-fn run_into(
+fn run(
     rt: &impl Print,
     map: &[u8],
     configuration: &mut [u8],
@@ -229,30 +137,6 @@ fn run_into(
     print_configuration(rt, answer)
 }
 
-fn run(
-    rt: &impl Print,
-    map: &[u8],
-    body: &[u8],
-    tape: &[u8],
-    room: usize,
-    answer: usize,
-) -> io::Result<()> {
-    let mut work_memory = [170u8; 2048];
-    let mut answer_memory = [170u8; 2048];
-    let w = at_most_2048(room);
-    let a = at_most_2048(answer);
-    let mut space = [0u8; 65536];
-    let k = append(body, &mut space, 0);
-    run_into(
-        rt,
-        map,
-        &mut space[..k],
-        tape,
-        &mut work_memory[..w],
-        &mut answer_memory[..a],
-    )
-}
-
 // Without its line end, which every case gets.
 fn program(rt: &impl Print, input: &[u8]) -> io::Result<()> {
     let mut out = [0u8; LINE_ROOM];
@@ -263,50 +147,79 @@ fn program(rt: &impl Print, input: &[u8]) -> io::Result<()> {
     Ok(())
 }
 
-fn long_case(
-    rt: &impl Print,
-    op: u8,
-    map: &[u8],
-    body: &[u8],
-    tape: &[u8],
-    room: usize,
-    times: usize,
-    answer: usize,
-) -> io::Result<()> {
-    let mut space = [0u8; 66000];
-    if op == b'r' {
-        let n = repeat(tape, times, &mut space, 0);
-        return run(rt, map, body, &space[..n], room, answer);
-    }
-    let a = append(map, &mut space, 0);
-    let b = append(body, &mut space, a);
-    let n = repeat(tape, times, &mut space, b);
-    program(rt, &space[..n])
+// Copies what fits behind place `at`. Returns the place behind it.
+fn append(src: &[u8], dst: &mut [u8], at: usize) -> usize
+    requires { at ≤ length dst.old }
+    ensures { result ≤ length dst.new }
+{
+    let n = src.len().min(dst.len() - at);
+    dst[at..at + n].copy_from_slice(&src[..n]);
+    at + n
 }
 
-fn one_case(
+// The same so many times over.
+fn repeat(src: &[u8], times: usize, dst: &mut [u8], at: usize) -> usize
+    requires { at ≤ length dst.old }
+    ensures { result ≤ length dst.new }
+{
+    let mut end = at;
+    for _ in 0..times {
+        end = append(src, dst, end);
+    }
+    end
+}
+
+// Run on the repeated tape, with answer memory of its own.
+fn run_case(
     rt: &impl Print,
-    op: u8,
-    map: &[u8],
-    body: &[u8],
-    tape: &[u8],
-    room: usize,
-    times: usize,
-    answer: usize,
+    case: Case,
+    configuration: &mut [u8],
+    work: &mut [u8],
 ) -> io::Result<()> {
-    match op {
-        b'c' => check(rt, map),
-        b'k' => children(rt, map, body),
-        b'e' | b's' => write(rt, op, map, body, room),
-        b'v' => make_move(rt, map, body, tape, room),
-        b'r' | b'p' => long_case(rt, op, map, body, tape, room, times, answer),
-        _ => mark(rt, map, body),
+    let mut answer = LENT;
+    let mut tape = [0u8; 66000];
+    let n = repeat(case.tape, case.times, &mut tape, 0);
+    let room = case.answer.min(LENT.len());
+    run(
+        rt,
+        case.map,
+        configuration,
+        &tape[..n],
+        work,
+        &mut answer[..room],
+    )
+}
+
+// The program on an input of the case's parts one behind the other.
+fn program_case(rt: &impl Print, case: Case) -> io::Result<()> {
+    let mut input = [0u8; 66000];
+    let a = append(case.map, &mut input, 0);
+    let b = append(case.body, &mut input, a);
+    let n = repeat(case.tape, case.times, &mut input, b);
+    program(rt, &input[..n])
+}
+
+fn one_case(rt: &impl Print, case: Case) -> io::Result<()> {
+    let mut memory = LENT;
+    let out = &mut memory[..case.room.min(LENT.len())];
+    let mut space = [0u8; 65536];
+    let n = append(case.body, &mut space, 0);
+    let configuration = &mut space[..n];
+    match case.op {
+        b'c' => check(rt, case.map),
+        b'k' => children(rt, case.map, case.body),
+        b'e' => evaluate(rt, case.map, case.body, out),
+        b's' => survey(rt, case.map, case.body, out),
+        b'v' => make_move(rt, case.map, configuration, case.tape, out),
+        b'r' => run_case(rt, case, configuration, out),
+        b'p' => program_case(rt, case),
+        _ => mark(rt, case.map, case.body),
     }?;
-    rt.write_all(b"\n")
+    print!(rt; "\n")
 }
 
 // The length of a case's header.
-fn header(op: u8) -> usize
+fn header_length(op: u8) -> usize
     ensures { (7 ≤ result) × (result ≤ 15) }
 {
     match op {
@@ -316,92 +229,55 @@ fn header(op: u8) -> usize
     }
 }
 
-// The length of a case's tape.
-fn tape_length(rest: &[u8], head: usize) -> usize
-    requires { head ≤ length rest.now }
-    ensures { result < 4294967296 }
-{
-    if head < 11 {
-        return 0;
-    }
-    map::decode::word(rest, 7) + 65536 * map::decode::word(rest, 9)
-}
-
-// The u16 at a place of the header, if the header reaches it.
-fn extra(rest: &[u8], head: usize, at: usize) -> usize
-    requires { (head ≤ length rest.now) × (at ≤ 65536) }
+// The u16 at a place of the header, or 0 where the header ends before it.
+fn field(header: &[u8], at: usize) -> usize
+    requires { at ≤ 65536 }
     ensures { result < 65536 }
 {
-    if head < at + 2 {
+    if header.len() < at + 2 {
         return 0;
     }
-    map::decode::word(rest, at)
+    word(header, at)
 }
 
-// Runs the case that stands first. Returns its length, or 0 where no whole case stands.
-fn first_case(rt: &impl Print, s: &[u8]) -> io::Result<usize>
-    ensures { IfOk result (λ n. n ≤ length s.now) }
+// The case that stands first, if it is whole, and what is behind it.
+fn first_case(s: &[u8]) -> Option<(Case, &[u8])>
+    ensures { IfSome result (λ p. length p.1.now < length s.now) }
 {
     if s.len() < 7 {
-        return Ok(0);
+        return None;
     }
-    let head = header(s[0]);
+    let op = s[0];
+    let head = header_length(op);
     if s.len() < head {
-        return Ok(0);
+        return None;
     }
-    let body = head + map::decode::word(s, 1);
-    let tape = body + map::decode::word(s, 3);
-    let end = tape + tape_length(s, head);
+    let header = &s[..head];
+    let body = head + field(header, 1);
+    let tape = body + field(header, 3);
+    let end = tape + field(header, 7) + 65536 * field(header, 9);
     if s.len() < end {
-        return Ok(0);
+        return None;
     }
-    one_case(
-        rt,
-        s[0],
-        &s[head..body],
-        &s[body..tape],
-        &s[tape..end],
-        map::decode::word(s, 5),
-        extra(s, head, 11),
-        extra(s, head, 13),
-    )?;
-    Ok(end)
+    let case = Case {
+        op,
+        map: &s[head..body],
+        body: &s[body..tape],
+        tape: &s[tape..end],
+        room: field(header, 5),
+        times: field(header, 11),
+        answer: field(header, 13),
+    };
+    Some((case, &s[end..]))
 }
 
 fn all_cases(rt: &impl Print, s: &[u8]) -> io::Result<()> {
     let mut rest = s;
-    let mut turns = s.len();
-    while turns > 0 {
-        let end = first_case(rt, rest)?;
-        if end == 0 {
-            return Ok(());
-        }
-        rest = &rest[end..];
-        turns -= 1;
+    while let Some((case, behind)) = first_case(rest) {
+        one_case(rt, case)?;
+        rest = behind;
     }
     Ok(())
-}
-
-// Reads until `buf` is full or the input ends, however small the pieces in which it comes. Returns how many bytes it read: they are the first of `buf`.
-fn read_full(input: &mut impl Read, buf: &mut [u8]) -> io::Result<usize>
-    ensures { IfOk result (λ n. n ≤ length buf.new) }
-{
-    let mut done = 0;
-    for _ in 0..u64::MAX {
-        if done == buf.len() {
-            break;
-        }
-        match input.read(&mut buf[done..]) {
-            Ok(0) => break,
-            Ok(n) => done += n,
-            Err(e) => {
-                if e.kind() != ErrorKind::Interrupted {
-                    return Err(e);
-                }
-            }
-        }
-    }
-    Ok(done)
 }
 
 // Reads into `buf`, and runs the cases that it holds.

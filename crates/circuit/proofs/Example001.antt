@@ -12,7 +12,8 @@ use mathlib.Core.List.{Memᴰ as In}
 use native.Mathlib.Omega.{arith}
 use Rattle.folds.specs.Folds.{◌and◌}
 use Rattle.folds.proofs.Tests.{and_first_false, and_second_false}
-use Rattle.circuit.specs.Gate.{And, gives}
+use Rattle.circuit.specs.declared.Kind.TheVariants.{And}
+use Rattle.circuit.specs.Gate.{gives}
 use Rattle.circuit.specs.Source001.{Partial, Has, Justification, Minimal, justifications_of_t1, minimal_of_t1, children_of_t1, ExampleIs001}
 use Rattle.circuit.proofs.Justification.{never, some_is, has_or_not, just, just_at, just_has}
 

@@ -3,7 +3,7 @@
 use Prim.Native.Nat.{ℕ, ◌≤◌}
 use mathlib.Core.Path.{◌≡◌, refl, sym, ap, ◌∙◌}
 use mathlib.Core.Logic.{◌⊎◌, inl, inr, ◌↔◌}
-use mathlib.Core.Bool.{Bool, true, false, cond, not, true≢false, false≢true}
+use mathlib.Core.Bool.{Bool, true, false, cond, not, true≢false, false≢true, not-not}
 use mathlib.Core.List.{List, [], ◌∷◌, map}
 use mathlib.Core.List.Memᴰ.{cases_cons as cases}
 use mathlib.Core.List.Memᴰ.{head as here}
@@ -17,9 +17,11 @@ use borrow.Author.Tests.{eqb-true, leb-true}
 use Rattle.folds.specs.Folds.{◌and◌}
 use Rattle.folds.proofs.Tests.{which, and_left, and_right, and_first_false, and_second_false, and_past, or_cases, or_first, or_second}
 use Rattle.circuit.specs.Tools.{same, Rising, singles}
-use Rattle.circuit.specs.Gate.{Kind, Input, Not, And, Or, Xor, is_input, fan_in_fits, all_on, some_on, odd_on, gives, relevant, wrong, options}
+use Rattle.circuit.specs.declared.Kind.{Kind}
+use Rattle.circuit.specs.declared.Kind.TheVariants.{Input, Not, And, Or, Xor}
+use Rattle.circuit.specs.Gate.{is_input, fan_in_fits, all_on, some_on, odd_on, gives, relevant, wrong, options}
 use Rattle.circuit.specs.Source001.{Functions}
-use Rattle.circuit.proofs.Values.{agree, not_not, unequal, same_refl, same_swap, same_not}
+use Rattle.circuit.proofs.Values.{agree, unequal, same_refl, same_swap, same_not}
 use Rattle.circuit.proofs.Lists.{select_in, select_length, select_same, select_one, singles_in, singles_out}
 use Rattle.circuit.proofs.Justification.{flip, flip_self, flip_other, One, all_other, other_all}
 use Rattle.circuit.proofs.Shapes.{Laws, Narrow, apart, one_laws, each_laws}
@@ -88,12 +90,12 @@ same_turned false q = refl
 
 turned_same : (b q : Bool) → same (not b) q ≡ not (same b q)
 turned_same true q = refl
-turned_same false q = sym (not_not q)
+turned_same false q = sym (not-not q)
 
 -- `not (same p q)` is the sum of two parities, and this its law of exchange
 exchange : (b p q : Bool) → not (same b (not (same p q))) ≡ not (same p (not (same b q)))
 exchange true p q = ap not (sym (same_turned p q))
-exchange false p q = rw (not_not q) (not_not (not (same p q)))
+exchange false p q = rw (not-not q) (not-not (not (same p q)))
 
 odd_apart : (τ at : ℕ → Bool) (xs : List ℕ) → odd_on (map τ xs) ≡ not (same (odds (apart τ at xs)) (odd_on (map at xs)))
 odd_apart τ at [] = refl
@@ -115,7 +117,7 @@ module _ (k : Kind) (v turned : Bool) (narrow : Narrow k)
     (small : (n : ℕ) → fan_in_fits k n ≡ true → n ≤ 2) where
   gives_apart : (τ at : ℕ → Bool) (xs : List ℕ) (b : Bool) → odds (apart τ at xs) ≡ b → gives k (map τ xs) ≡ cond b (not (gives k (map at xs))) (gives k (map at xs))
   gives_apart τ at xs true q = is (map τ xs) ∙ rw (odd_apart τ at xs, q, is (map at xs)) (same_turned turned (odd_on (map at xs)))
-  gives_apart τ at xs false q = is (map τ xs) ∙ rw (odd_apart τ at xs, q, is (map at xs), not_not (odd_on (map at xs)))
+  gives_apart τ at xs false q = is (map τ xs) ∙ rw (odd_apart τ at xs, q, is (map at xs), not-not (odd_on (map at xs)))
 
   gives_flip : (τ : ℕ → Bool) (xs : List ℕ) (x : ℕ) → Rising xs → In x xs → gives k (map (flip x τ) xs) ≡ not (gives k (map τ xs))
   gives_flip τ xs x r m = gives_apart (flip x τ) τ xs true (rw (flip_apart τ xs x r m))
@@ -132,7 +134,7 @@ module _ (k : Kind) (v turned : Bool) (narrow : Narrow k)
       counts
       (λ at xs e o. (
         λ m. (let (x, i, q) = singles_out o xs (rw (option at xs) at m) in
-            (flip x at, gives_flip at xs x e.rising i ∙ ap not e.gave ∙ not_not v, q ∙ sym (flip_apart at xs x e.rising i))),
+            (flip x at, gives_flip at xs x e.rising i ∙ ap not e.gave ∙ not-not v, q ∙ sym (flip_apart at xs x e.rising i))),
         λ t. rw (option at xs, t.2) (let (x, q) = one_apart t.0 at xs (small (length xs) e.fits) e.gave t.1 in
             rw q (singles_in x xs (select_in (λ y. not (same (t.0 y) (at y))) x xs (rw q (here refl))).0)),
       ))

@@ -16,3 +16,4 @@ pub mod Moves
 pub mod Trace
 pub mod Finish
 pub mod Unchanged
+pub mod Refusals

@@ -3,7 +3,7 @@ use Prim.Native.Nat.{ℕ, zero, suc, ◌+◌, ◌≤◌, ◌<◌, ◌%◌}
 use mathlib.Core.Path.{◌≡◌, refl, sym, ap, ◌∙◌}
 use mathlib.Core.Logic.{inl, inr}
 use mathlib.Core.Bool.{Bool, true, false, true≢false, false≢true}
-use mathlib.Core.List.{List, [], ◌∷◌, ◌++◌, map, append-nil}
+use mathlib.Core.List.{List, [], ◌∷◌, ◌++◌, map, append-nil, map-append}
 use mathlib.Core.List.Memᴰ.{append_cases}
 use mathlib.Core.List.Memᴰ.{append_left}
 use mathlib.Core.List.Memᴰ.{append_right}
@@ -238,14 +238,10 @@ pub rising_up_to : (n : ℕ) → Rising (up_to n)
 rising_up_to zero = tt
 rising_up_to (suc n) = rising_end (up_to n) n (rising_up_to n) (λ x m. in_up_to x n m)
 
-pub map_append : {A B : Type 0} (f : A → B) (xs ys : List A) → map f (xs ++ ys) ≡ map f xs ++ map f ys
-map_append f [] ys = refl
-map_append f (x ∷ xs) ys = ap (λ r. f x ∷ r) (map_append f xs ys)
-
 -- a table's entry
 pub map_at : {A : Type 0} (f : ℕ → A) (n i : ℕ) (d : A) → i < n → get_or (map f (up_to n)) i d ≡ f i
 map_at f zero i d h = absurd (omega arith)
-map_at f (suc n) i d h = rw (map_append f (up_to n) (n ∷ [])) (elim (which (eqb i n)) [
+map_at f (suc n) i d h = rw (map-append f (up_to n) (n ∷ [])) (elim (which (eqb i n)) [
   | inl q ↦ rw (eqb-true i n q) (get_or_at (map f (up_to n)) (f n) [] d n (length-map (up_to n) f ∙ length_up_to n))
   | inr q ↦ (let l : i < n = omega (arith, eqb-false i n q) in
       get_or-append (map f (up_to n)) (f n ∷ []) d i (rw (length-map, length_up_to) l) ∙ map_at f n i d l)
@@ -296,7 +292,7 @@ module _ (p : ℕ → Bool) where
     table n = map f (select p (up_to n))
 
     table_more : (n : ℕ) → p n ≡ true → table (suc n) ≡ table n ++ (f n ∷ [])
-    table_more n q = ap (map f) (select_more n q) ∙ map_append f (select p (up_to n)) (n ∷ [])
+    table_more n q = ap (map f) (select_more n q) ∙ map-append f (select p (up_to n)) (n ∷ [])
 
     table_past : (n : ℕ) → p n ≡ false → table (suc n) ≡ table n
     table_past n q = ap (map f) (select_past n q)

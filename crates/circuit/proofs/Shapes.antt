@@ -13,7 +13,8 @@ use native.Mathlib.Omega.{arith}
 use lib.ListN.{length}
 use borrow.Author.Tests.{not-true}
 use Rattle.circuit.specs.Tools.{same, Rising, Distinct, singles, select}
-use Rattle.circuit.specs.Gate.{Kind, is_input, fan_in_fits, gives, relevant, wrong, options}
+use Rattle.circuit.specs.declared.Kind.{Kind}
+use Rattle.circuit.specs.Gate.{is_input, fan_in_fits, gives, relevant, wrong, options}
 use Rattle.circuit.specs.Source001.{Partial, Has, restrict, TakesPart, changed, MoveOf}
 use Rattle.circuit.proofs.Values.{opposite, same_true, same_false, same_refl, same_swap, same_not}
 use Rattle.circuit.proofs.Lists.{map_same, select_in, select_same, select_one, singles_in, singles_out, singles_length, singles_distinct}

@@ -2,6 +2,7 @@
 use Prim.Native.Nat.{ℕ, zero, suc, ◌+◌, ◌≤◌, ◌<◌}
 use mathlib.Core.Path.{◌≡◌, refl, sym, ap}
 use mathlib.Core.Logic.{inl, inr, ◌↔◌}
+use Rattle.std.proofs.lemmas.Bool.{cases_order}
 use mathlib.Core.Bool.{Bool, true, false, false≢true, true≢false}
 use mathlib.Core.List.{List, [], ◌∷◌}
 use native.Mathlib.Omega.{arith}
@@ -16,8 +17,7 @@ use Rattle.circuit.specs.Survey.{front, front_size}
 use Rattle.circuit.specs.declared.Entry.{Entry}
 use Rattle.circuit.specs.Run.{is_stuck, entry_chosen, move, EndingValues, told, RunResult, stop, after, run, answer}
 use Rattle.circuit.specs.Source001.{Front, Size}
-use Rattle.circuit.specs.Promise.{NoFront, StuckAt, EntryDoes, config, differences, AllBefore, AtFound, AtStuck, AtSpent, EndsAt, RunPromised, InputsAreFree, Demand2OnCircuits}
-use Rattle.circuit.proofs.Values.{order}
+use Rattle.circuit.specs.Promise.{NoFront, StuckAt, EntryDoes, config, differences, AllBefore, AtFound, AtStuck, EndsAt, RunPromised, InputsAreFree, Demand2OnCircuits}
 use Rattle.circuit.proofs.Lists.{some_length, at_place}
 use Rattle.circuit.proofs.Found.{answer_is, free_satisfies, answer_satisfies}
 use Rattle.circuit.proofs.Gate.{functions}
@@ -166,20 +166,12 @@ module _ (c : Circuit) (es : List Entry) (t : ℕ → List ℕ) (n : ℕ) where
   by_stuck false true size p e = p
   by_stuck found false size p e = absurd (false≢true e)
 
-  by_spent : (found stuck : Bool) (size : ℕ) → EndsAt c es t n size found stuck → found ≡ false → stuck ≡ false → AtSpent c es t n size
-  by_spent true stuck size p e q = absurd (true≢false e)
-  by_spent false true size p e q = absurd (true≢false q)
-  by_spent false false size p e q = p
-
   module _ (e : EndingValues) (p : EndsAt c es t n e.front e.found e.stuck) where
     pub found_ends : e.found ≡ true → AtFound c es t n e.front
     found_ends = by_found e.found e.stuck e.front p
 
     pub stuck_ends : e.stuck ≡ true → AtStuck c es t n e.front
     stuck_ends = by_stuck e.found e.stuck e.front p
-
-    pub spent_ends : e.found ≡ false → e.stuck ≡ false → AtSpent c es t n e.front
-    spent_ends = by_spent e.found e.stuck e.front p
 
 -- any entry, where a statement needs one for a place past the tape
 pub past_end : Entry
@@ -205,20 +197,20 @@ module _ (c : Circuit) (es : List Entry) (t : ℕ → List ℕ) (n size : ℕ) (
   found_at true false p = (λ f. (n, p.within, p.empty, before), λ w. refl)
   found_at false true p = (
     λ f. absurd (false≢true f),
-    λ w. (let (i, h, f, l) = w in elim (order i n) [
-      | inl a ↦ absurd (not_empty i a f)
+    λ w. (let (i, h, f, l) = w in elim (cases_order i n) [
+      | inl e ↦ absurd (stuck_front n p.sticks (rw e at f))
       | inr b ↦ elim b [
-        | inl e ↦ absurd (stuck_front n p.sticks (rw e at f))
+        | inl a ↦ absurd (not_empty i a f)
         | inr a ↦ absurd ((l past_end n a).not_stuck (p.sticks past_end))
       ]
     ]),
   )
   found_at false false p = (
     λ f. absurd (false≢true f),
-    λ w. (let (i, h, f, l) = w in elim (order i n) [
-      | inl a ↦ absurd (not_empty i a f)
+    λ w. (let (i, h, f, l) = w in elim (cases_order i n) [
+      | inl e ↦ absurd (size_some (Front c (t n)) size p.size_is p.some (rw e at f))
       | inr b ↦ elim b [
-        | inl e ↦ absurd (size_some (Front c (t n)) size p.size_is p.some (rw e at f))
+        | inl a ↦ absurd (not_empty i a f)
         | inr a ↦ absurd (let q = p.all_done in omega (arith, h, a, q))
       ]
     ]),
@@ -229,10 +221,10 @@ module _ (c : Circuit) (es : List Entry) (t : ℕ → List ℕ) (n size : ℕ) (
   sticks_at true true p = absurd p
   sticks_at true false p = (
     λ f. absurd (false≢true f),
-    λ w. (let (i, h, f, l) = w in elim (order i n) [
-      | inl a ↦ absurd ((before past_end i a).not_stuck (f past_end))
+    λ w. (let (i, h, f, l) = w in elim (cases_order i n) [
+      | inl e ↦ absurd (stuck_front i f (rw (← e) at p.empty))
       | inr b ↦ elim b [
-        | inl e ↦ absurd (stuck_front i f (rw (← e) at p.empty))
+        | inl a ↦ absurd ((before past_end i a).not_stuck (f past_end))
         | inr a ↦ absurd ((l past_end n a).some_front p.empty)
       ]
     ]),
@@ -248,9 +240,9 @@ module _ (c : Circuit) (es : List Entry) (t : ℕ → List ℕ) (n size : ℕ) (
   spent_at true true p = absurd p
   spent_at true false p = (
     λ f. absurd (true≢false f.0),
-    λ w. absurd (elim (order n (length es)) [
-      | inl a ↦ (w.1 past_end n a).some_front p.empty
-      | inr b ↦ elim b [ inl e ↦ w.0 (rw e at p.empty) | inr a ↦ (let q = p.within in omega (arith, a, q)) ]
+    λ w. absurd (elim (cases_order n (length es)) [
+      | inl e ↦ w.0 (rw e at p.empty)
+      | inr b ↦ elim b [ inl a ↦ (w.1 past_end n a).some_front p.empty | inr a ↦ (let q = p.within in omega (arith, a, q)) ]
     ]),
   )
   spent_at false true p = (λ f. absurd (true≢false f.1), λ w. absurd ((w.1 past_end n p.within).not_stuck (p.sticks past_end)))

@@ -1,12 +1,11 @@
--- Facts on values: `not`, `same`, a value as a byte, and the order of numbers. Assumes nothing.
-use Prim.Native.Nat.{ℕ, zero, suc, ◌≤◌, ◌<◌}
+-- Facts on values: `not`, `same`, and a value as a byte. Assumes nothing.
+use Prim.Native.Nat.{ℕ, zero, suc, ◌≤◌}
 use mathlib.Core.Path.{◌≡◌, refl, sym, ap, ◌∙◌}
 use mathlib.Core.Logic.{◌⊎◌, inl, inr}
-use mathlib.Core.Bool.{Bool, true, false, not, true≢false}
+use mathlib.Core.Bool.{Bool, true, false, not, true≢false, not-not}
 use native.Mathlib.Omega.{arith}
-use lib.Dec.{eqb, ltb}
-use borrow.Author.Tests.{eqb-true, eqb-false, ltb-true, ltb-false}
-use Rattle.folds.proofs.Tests.{which}
+use lib.Dec.{eqb}
+use mir.Val.{bool_byte}
 use Rattle.circuit.specs.Tools.{byte, same}
 
 -- two values agree or are opposite
@@ -16,12 +15,8 @@ agree true false = inr refl
 agree false true = inr refl
 agree false false = inl refl
 
-pub not_not : (b : Bool) → not (not b) ≡ b
-not_not true = refl
-not_not false = refl
-
 pub opposite : (b v : Bool) → b ≡ not v → v ≡ not b
-opposite b v e = sym (not_not v) ∙ sym (ap not e)
+opposite b v e = sym (not-not v) ∙ sym (ap not e)
 
 pub unequal : (b v : Bool) → b ≡ v → not b ≡ v → ⊥
 unequal true v p q = true≢false (p ∙ sym q)
@@ -35,7 +30,7 @@ same_true false v e = sym (opposite true v (sym e))
 
 pub same_false : (b v : Bool) → same b v ≡ false → v ≡ not b
 same_false true v e = e
-same_false false v e = sym (not_not v) ∙ ap not e
+same_false false v e = sym (not-not v) ∙ ap not e
 
 pub same_refl : (b : Bool) → same b b ≡ true
 same_refl true = refl
@@ -75,12 +70,7 @@ bit_turned zero h = refl
 bit_turned (suc zero) h = refl
 bit_turned (suc (suc n)) h = absurd (omega arith)
 
--- one of two numbers is smaller, or they are equal
-pub order : (i n : ℕ) → (i < n) ⊎ ((i ≡ n) ⊎ (n < i))
-order i n = elim (which (ltb i n)) [
-  | inl q ↦ inl (ltb-true i n q)
-  | inr q ↦ elim (which (eqb i n)) [
-    | inl e ↦ inr (inl (eqb-true i n e))
-    | inr e ↦ inr (inr (let a = ltb-false i n q in let b = eqb-false i n e in omega arith))
-  ]
-]
+-- the number that code makes of a bool, as `usize::from` does
+pub bit_is : (b : Bool) → bool_byte b ≡ byte b
+bit_is true = refl
+bit_is false = refl

@@ -5,7 +5,7 @@ use Rattle.std.proofs.Math.Option.{none, some}
 use Rattle.circuit.specs.declared.Choice.{Choice}
 use Rattle.circuit.specs.declared.Choice.TheVariants.{Greedy, Down, Up}
 use Rattle.circuit.specs.declared.Ending.TheVariants.{Found, Spent, Stuck}
-use Rattle.circuit.specs.Gate.{Input, Not, And, Or, Xor}
+use Rattle.circuit.specs.declared.Kind.TheVariants.{Input, Not, And, Or, Xor}
 use Rattle.circuit.specs.Circuit.{Circuit}
 use Rattle.circuit.specs.Evaluate.{evaluate, mark, differ}
 use Rattle.circuit.specs.Survey.{survey}

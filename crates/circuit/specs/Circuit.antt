@@ -4,7 +4,8 @@ use Rattle.std.proofs.Math.Option.{Option, none, some}
 use mathlib.Core.List.{List, map, Memᴰ as In}
 use Rattle.folds.specs.Folds.{◌or◌}
 use Rattle.circuit.specs.Tools.{same, up_to, Rising, select}
-use Rattle.circuit.specs.Gate.{Kind, is_input, fan_in_fits, gives}
+use Rattle.circuit.specs.declared.Kind.{Kind}
+use Rattle.circuit.specs.Gate.{is_input, fan_in_fits, gives}
 
 -- How many gates there are; of each its kind, its children in their order, and the value that its code fixes, if it is coded.
 pub record Circuit : Type 0 where

@@ -1,13 +1,15 @@
 -- The kinds of gate. All that document 01 says of one kind and not of another stands here: a new kind is a new clause of each definition. (What code goes by, as options
 -- by their places and only fan-ins, is in `kinds`.)
 -- A gate is seen by its kind, its own value and its children with their values. Assumes nothing.
-use Rattle.std.specs.Prelude.{ℕ, zero, suc, ◌≤◌, ◌≡◌, Bool, true, false, not, List, [], ◌∷◌, eqb, leb}
+use Rattle.std.specs.Prelude.{ℕ, zero, suc, ◌≤◌, ◌<◌, ◌≡◌, Bool, true, false, not, List, [], ◌∷◌, eqb, leb, Result, MatchResult}
 use Rattle.folds.specs.Folds.{◌and◌, ◌or◌}
+use Rattle.circuit.specs.declared.Kind.{Kind}
+use Rattle.circuit.specs.declared.Kind.TheVariants.{Input, Not, And, Or, Xor}
+use Rattle.circuit.specs.declared.UnknownKind.{UnknownKind}
 use Rattle.circuit.specs.Tools.{same, select, singles}
 
 -- "Kinds: 0 input, 1 NOT, 2 AND, 3 OR, 4 XOR."
-pub data Kind : Type 0 where
-  Input Not And Or Xor : Kind
+-- `Kind` is a type of src/, by whose order its bytes go.
 
 abbrev pub last_kind : ℕ
 last_kind = 4
@@ -26,6 +28,10 @@ kind_number Not = 1
 kind_number And = 2
 kind_number Or = 3
 kind_number Xor = 4
+
+-- what reading a kind byte gives: its kind, or that it has none
+abbrev pub KindRead : ℕ → Result Kind UnknownKind → Type 0
+KindRead b r = MatchResult r (λ k. (b ≤ last_kind) × (k ≡ kind_of b)) (λ _. last_kind < b)
 
 abbrev pub is_input : Kind → Bool
 is_input Input = true

@@ -1,5 +1,6 @@
 pub mod Tools
 pub mod Gate
+pub mod Refusal
 pub mod Circuit
 pub mod Evaluate
 pub mod Survey

@@ -7,6 +7,7 @@ use Rattle.circuit.specs.declared.Entry.{Entry}
 use Rattle.circuit.specs.declared.Ending.{Ending}
 use Rattle.circuit.specs.declared.Ending.TheVariants.{Found, Spent, Stuck, Refused}
 use Rattle.circuit.specs.declared.Outcome.{Outcome}
+use Rattle.circuit.specs.Refusal.{number_of}
 use Rattle.circuit.specs.Tools.{byte, select, holds_of_all, is_empty, pick}
 use Rattle.circuit.specs.Gate.{options}
 use Rattle.circuit.specs.Circuit.{Circuit, coded, on}
@@ -111,7 +112,7 @@ abbrev pub told : Ending → EndingValues
 told Found = record { accepted = true; number = 0; found = true; stuck = false; front = 0 }
 told (Spent f) = record { accepted = true; number = 0; found = false; stuck = false; front = f }
 told Stuck = record { accepted = true; number = 0; found = false; stuck = true; front = 0 }
-told (Refused n) = record { accepted = false; number = n; found = false; stuck = false; front = 0 }
+told (Refused r) = record { accepted = false; number = number_of r; found = false; stuck = false; front = 0 }
 
 -- "A run's answer is one record: its ending, its moves and its flips", here beside the last configuration
 pub record RunResult : Type 0 where

@@ -6,7 +6,8 @@ use Rattle.std.specs.Prelude.{ℕ, ◌+◌, ◌*◌, ◌<◌, ◌≡◌, ◌⊎�
 use Rattle.std.proofs.Math.Option.{Option, none, some}
 use mathlib.Core.List.{List, [], ◌∷◌, map, Memᴰ as In}
 use Rattle.circuit.specs.Tools.{byte, same, member, Rising, Distinct, singles, select}
-use Rattle.circuit.specs.Gate.{Not, And, Or, Xor, is_input, gives, wrong}
+use Rattle.circuit.specs.declared.Kind.TheVariants.{Not, And, Or, Xor}
+use Rattle.circuit.specs.Gate.{is_input, gives, wrong}
 use Rattle.circuit.specs.Circuit.{Circuit, coded, WellFormed, Configuration, on, justified}
 use Rattle.circuit.specs.Evaluate.{inputs, differ}
 use Rattle.circuit.specs.Survey.{reasons, cone, in_front, front, interest, survey, front_size, interest_size}

@@ -29,7 +29,7 @@ use Rattle.circuit.proofs.Finish.{demand3_on_circuits}
 use Rattle.map.specs.Map.{most_gates, gate_count, code_count, code_gate, code_value, circuit}
 use Rattle.map.specs.Check.{first_failed, map_tests}
 use Rattle.map.specs.Inner.{IsMap}
-use Rattle.map.proofs.Accepted.{facts, well_formed}
+use Rattle.map.proofs.Facts.{facts, well_formed}
 use Rattle.map.proofs.Codes.{code_found}
 use Rattle.map.proofs.Described.{map_accepts, accepted_maps}
 use Rattle.state.specs.State.{over, Satisfies}

@@ -20,7 +20,7 @@ use Rattle.circuit.proofs.Unchanged.{unchanged}
 use Rattle.map.specs.Map.{code_count, circuit}
 use Rattle.map.specs.Check.{first_failed, map_tests, verdict, Test, passes, fails, MapNumber}
 use Rattle.map.specs.Inner.{IsMap}
-use Rattle.map.proofs.Accepted.{facts, well_formed, kid_at}
+use Rattle.map.proofs.Facts.{facts, well_formed, kid_at}
 use Rattle.map.proofs.Codes.{code_record}
 use Rattle.map.proofs.Described.{check_number, check_accepts}
 use Rattle.state.proofs.Meaning.{evaluate_number, mark_does, mark_number}

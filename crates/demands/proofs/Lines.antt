@@ -25,7 +25,7 @@ use Rattle.circuit.proofs.Lists.{select_length, length_up_to}
 use Rattle.map.specs.Map.{most_gates, u16_at, gate_count, kind_byte}
 use Rattle.map.specs.Check.{verdict}
 use Rattle.map.specs.Inner.{Shaped}
-use Rattle.map.proofs.Accepted.{facts}
+use Rattle.map.proofs.Facts.{facts}
 use Rattle.map.proofs.Answers.{behind_refused}
 use Rattle.search.specs.Run.{run_tests, RunEffect, ending_values, run_answer, run_by, run_effect, Room}
 use Rattle.search.proofs.Endings.{stuck_alone}

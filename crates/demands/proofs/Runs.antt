@@ -22,7 +22,7 @@ use Rattle.circuit.proofs.Trace.{run_found, run_spent, run_sticks, run_step}
 use Rattle.map.specs.Map.{gate_count, circuit}
 use Rattle.map.specs.Check.{first_failed, map_tests}
 use Rattle.map.proofs.Laws.{past, no_test}
-use Rattle.map.proofs.Accepted.{facts}
+use Rattle.map.proofs.Facts.{facts}
 use Rattle.map.proofs.Answers.{behind_accepted}
 use Rattle.map.proofs.Described.{tested, map_number}
 use Rattle.state.proofs.Meaning.{behind}

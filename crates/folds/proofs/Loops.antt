@@ -54,12 +54,4 @@ fails_at n i p l h = sym (all_fails p n i l h)
 pub all_done : (n i : ℕ) (p : ℕ → Bool) → all_below i p ≡ true → i ≤ n → n ≤ i → true ≡ all_below n p
 all_done n i p a l r = let e : n ≡ i = omega arith in rw (e, a)
 
-pub fails_at_of : (n f i : ℕ) (p : ℕ → Bool) → f ≡ n → i < f → p i ≡ false → false ≡ all_below n p
-fails_at_of n f i p e l h = rw (← e) (fails_at f i p l h)
-
-pub all_done_of : (n f i : ℕ) (p : ℕ → Bool) → f ≡ n → all_below i p ≡ true → i ≤ f → f ≤ i → true ≡ all_below n p
-all_done_of n f i p e a l r = rw (← e) (all_done f i p a l r)
-
 pub ruleset loops = (all_none, all_more, fails_at, all_done, flags)
-
-pub ruleset loops_of = (all_none, all_more, fails_at_of, all_done_of, flags)

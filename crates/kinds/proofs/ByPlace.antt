@@ -2,15 +2,17 @@
 use Prim.Native.Nat.{ℕ, zero, suc, ◌<◌}
 use mathlib.Core.Path.{◌≡◌, refl, sym, ap, ◌∙◌}
 use mathlib.Core.Logic.{inl, inr}
-use mathlib.Core.Bool.{Bool, true, false, not}
+use mathlib.Core.Bool.{Bool, true, false, not, not-not}
 use mathlib.Core.List.{List, [], ◌∷◌, map}
 use native.Mathlib.Omega.{arith}
 use lib.Dec.{eqb}
 use borrow.Author.Tests.{eqb-true, eqb-false, ne_eqb}
 use Rattle.folds.proofs.Tests.{which}
 use Rattle.circuit.specs.Tools.{up_to, singles, select}
-use Rattle.circuit.specs.Gate.{Kind, Input, Not, And, Or, Xor, options}
-use Rattle.circuit.proofs.Values.{same_swap, not_not}
+use Rattle.circuit.specs.declared.Kind.{Kind}
+use Rattle.circuit.specs.declared.Kind.TheVariants.{Input, Not, And, Or, Xor}
+use Rattle.circuit.specs.Gate.{options}
+use Rattle.circuit.proofs.Values.{same_swap}
 use Rattle.circuit.proofs.Lists.{map_same, in_up_to, select_same, select_append, select_none, select_images}
 use Rattle.kinds.specs.Kinds.{option_count, option_turns}
 
@@ -46,5 +48,5 @@ options_by Not v at child n = each child n
 options_by And true at child n = joint child _ (λ x. not (at x)) n (λ x. ap not (same_swap (at x) true))
 options_by And false at child n = each child n
 options_by Or true at child n = each child n
-options_by Or false at child n = joint child _ at n (λ x. ap not (same_swap (at x) false) ∙ not_not (at x))
+options_by Or false at child n = joint child _ at n (λ x. ap not (same_swap (at x) false) ∙ not-not (at x))
 options_by Xor v at child n = each child n

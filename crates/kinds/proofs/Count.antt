@@ -2,8 +2,8 @@
 use Prim.Native.Nat.{ℕ, zero, suc, ◌+◌, ◌%◌, ◌≤◌}
 use mathlib.Core.Path.{◌≡◌, refl, sym, ap, ◌∙◌}
 use mathlib.Core.Logic.{inl, inr}
-use mathlib.Core.Bool.{Bool, true, false, not}
-use mathlib.Core.List.{List, [], ◌∷◌, ◌++◌, map}
+use mathlib.Core.Bool.{Bool, true, false, not, not-not}
+use mathlib.Core.List.{List, [], ◌∷◌, ◌++◌, map, map-append}
 use native.Mathlib.Omega.{arith}
 use native.Mathlib.Nat.{zero-add}
 use lib.ListN.{length}
@@ -12,11 +12,10 @@ use borrow.Author.Tests.{eqb-true, eqb-false, eq-eqb, ne_eqb, lt-ltb}
 use Rattle.folds.specs.Folds.{◌and◌, ◌or◌}
 use Rattle.folds.proofs.Tests.{which}
 use Rattle.circuit.specs.Tools.{up_to, select}
+use Rattle.circuit.specs.declared.Kind.TheVariants.{Not, And, Or, Xor}
 use Rattle.circuit.specs.Gate.{all_on, some_on, odd_on}
-use Rattle.circuit.proofs.Values.{not_not}
-use Rattle.circuit.proofs.Lists.{map_append, place_more}
+use Rattle.circuit.proofs.Lists.{place_more}
 use Rattle.kinds.specs.Kinds.{count_on, GivesBy}
-use Rattle.kinds.proofs.Bytes.{xor_kind}
 
 -- ---- counting
 
@@ -32,7 +31,7 @@ count_append (v ∷ vs) ws = let ih = count_append vs ws in omega arith
 -- the loop's count is that of the values
 pub count_is : (p : ℕ → Bool) (n : ℕ) → count_on (map p (up_to n)) ≡ length (select p (up_to n))
 count_is p zero = refl
-count_is p (suc n) = rw (map_append p (up_to n) (n ∷ []), count_append (map p (up_to n)) (p n ∷ []), place_more p n, count_is p n) (omega arith)
+count_is p (suc n) = rw (map-append p (up_to n) (n ∷ []), count_append (map p (up_to n)) (p n ∷ []), place_more p n, count_is p n) (omega arith)
 
 -- ---- the kinds
 
@@ -54,7 +53,7 @@ count_odd (true ∷ vs) = elim (which (eqb (count_on vs % 2) 1)) [
   | inl q ↦ ne_eqb ((1 + count_on vs) % 2) 1 (λ e. omega (arith, eqb-true (count_on vs % 2) 1 q)) ∙ ap not (sym q ∙ count_odd vs)
   | inr q ↦ eq-eqb ((1 + count_on vs) % 2) 1 (omega (arith, eqb-false (count_on vs % 2) 1 q)) ∙ ap not (sym q ∙ count_odd vs)
 ]
-count_odd (false ∷ vs) = rw (zero-add (count_on vs)) (count_odd vs ∙ sym (not_not (odd_on vs)))
+count_odd (false ∷ vs) = rw (zero-add (count_on vs)) (count_odd vs ∙ sym (not-not (odd_on vs)))
 
 count_even : (vs : List Bool) → eqb (count_on vs % 2) 0 ≡ not (odd_on vs)
 count_even vs = elim (which (eqb (count_on vs % 2) 1)) [
@@ -62,16 +61,18 @@ count_even vs = elim (which (eqb (count_on vs % 2) 1)) [
   | inr q ↦ eq-eqb (count_on vs % 2) 0 (omega (arith, eqb-false (count_on vs % 2) 1 q)) ∙ ap not (sym q ∙ count_odd vs)
 ]
 
--- what the code answers for each kind byte
+-- what the code answers for each kind
 module _ (n ones : ℕ) where
-  pub not_gives : GivesBy 1 n ones (eqb (ones % 2) 0)
+  pub not_gives : GivesBy Not n ones (eqb (ones % 2) 0)
   not_gives vs l e = rw (← e) (count_even vs)
 
-  pub and_gives : GivesBy 2 n ones (eqb ones n)
+  pub and_gives : GivesBy And n ones (eqb ones n)
   and_gives vs l e = rw (← e, ← l) (count_all vs)
 
-  pub or_gives : GivesBy 3 n ones (ltb 0 ones)
+  pub or_gives : GivesBy Or n ones (ltb 0 ones)
   or_gives vs l e = rw (← e) (count_some vs)
 
-  pub xor_gives : (k : ℕ) → (k ≡ 0 → ⊥) → (k ≡ 1 → ⊥) → (k ≡ 2 → ⊥) → (k ≡ 3 → ⊥) → GivesBy k n ones (eqb (ones % 2) 1)
-  xor_gives k a b d f vs l e = rw (xor_kind k a b d f, ← e) (count_odd vs)
+  pub xor_gives : GivesBy Xor n ones (eqb (ones % 2) 1)
+  xor_gives vs l e = rw (← e) (count_odd vs)
+
+pub ruleset kinds_give = (not_gives, and_gives, or_gives, xor_gives)

@@ -2,7 +2,9 @@
 use Rattle.std.specs.Prelude.{ℕ, ◌+◌, ◌≡◌, Bool, true, false, not, List, [], ◌∷◌, length, eqb, leb}
 use Rattle.folds.specs.Folds.{◌and◌}
 use Rattle.circuit.specs.Tools.{byte}
-use Rattle.circuit.specs.Gate.{Kind, Input, Not, And, Or, Xor, last_kind, kind_of, fan_in_fits, gives}
+use Rattle.circuit.specs.declared.Kind.{Kind}
+use Rattle.circuit.specs.declared.Kind.TheVariants.{Input, Not, And, Or, Xor}
+use Rattle.circuit.specs.Gate.{last_kind, kind_of, fan_in_fits, gives}
 
 -- "4. A kind is above 4 or a fan-in isn't allowed for its kind.": true where neither is so of a kind byte and a fan-in
 unfoldable pub kind_fits : ℕ → ℕ → Bool
@@ -21,9 +23,9 @@ abbrev pub count_on : List Bool → ℕ
 count_on [] = 0
 count_on (v ∷ vs) = byte v + count_on vs
 
--- v is what a gate of kind byte k gives to any n values of which `ones` are 1
-abbrev pub GivesBy : ℕ → ℕ → ℕ → Bool → Type 0
-GivesBy k n ones v = (vs : List Bool) → length vs ≡ n → count_on vs ≡ ones → v ≡ gives (kind_of k) vs
+-- v is what a gate of kind k gives to any n values of which `ones` are 1
+abbrev pub GivesBy : Kind → ℕ → ℕ → Bool → Type 0
+GivesBy k n ones v = (vs : List Bool) → length vs ≡ n → count_on vs ≡ ones → v ≡ gives k vs
 
 -- A gate's down options by the places of its children: how many a gate of this kind with value v and n children has, and whether option i turns child
 -- j, whose value is x. That these are `options` of Gate.antt is `options_by` of proofs/ByPlace.antt.

@@ -5,23 +5,40 @@ use mathlib.Core.Logic.{inl, inr}
 use mathlib.Core.Bool.{true, false}
 use mathlib.Core.List.{List, ◌++◌}
 use native.Mathlib.Omega.{arith}
-use lib.ListN.{length, take, drop, length-append}
+use lib.ListN.{length, take, drop, replicate, length-append}
 use lib.Seq.{take_at, take_all, length-take-le, take-append_seam, drop-drop, drop-append_seam}
 use lib.Dec.{leb}
 use borrow.Author.Tests.{leb-true, leb-false, le-leb, lt-leb, eqb-true, eq-eqb}
+use Rattle.circuit.specs.declared.Refusal.{Refusal}
+use Rattle.circuit.specs.Refusal.{number_of}
+use Rattle.circuit.specs.declared.Outcome.{Outcome}
+use Rattle.circuit.specs.Run.{told}
 use Rattle.folds.proofs.Tests.{which, and_left, and_right, and_both, and_first_false}
-use Rattle.map.specs.Map.{u16_at}
+use Rattle.map.specs.Map.{most_gates, u16_at}
+use Rattle.map.specs.Check.{verdict}
 use Rattle.map.specs.Inner.{Shaped}
-use Rattle.map.proofs.Accepted.{facts}
-use Rattle.search.specs.Run.{run_effect}
+use Rattle.map.proofs.Facts.{facts}
+use Rattle.search.specs.Inner.{run_on_map}
+use Rattle.search.specs.Run.{run_answer, run_effect}
 use Rattle.search.proofs.Endings.{found_passes}
-use Rattle.line.specs.Inner.{Wrote}
-use Rattle.line.specs.Line.{most_input, input_room, tape_place, map_part, configuration_part, tape_part, input_test, refused_line, run_line, line_of, input_of, CutInput, LineOfAll, line_room, LineEffect, line_answer, line_effect}
-use Rattle.line.proofs.Writing.{wrote_over}
+use Rattle.search.proofs.Runs.{on_a_map, no_map}
+use Rattle.line.specs.Line.{most_input, lent, report, input_room, tape_place, map_part, configuration_part, tape_part, input_test, refused_line, effect_line, run_line, line_of, input_of, CutInput, LineOfAll, line_room, LineEffect, line_answer, line_effect}
 
 -- what Found tells of the map
 pub found_shaped : (m s tape work ans : List ℕ) → (run_effect m s tape work ans).found ≡ true → Shaped m
 found_shaped m s tape work ans f = (facts m (found_passes m s tape work ans f)).sound.placed.shaped
+
+-- the line of a run on a map that tests 1 to 7 accept, and where they refuse it
+module _ (m s tape : List ℕ) where
+  pub accepted_line : (b u w a : List ℕ) (o : Outcome) → b ≡ m → verdict m ≡ 0 → run_answer o u w a ≡ run_on_map b s tape (replicate most_gates 0) (replicate most_gates 0)
+      → report (told o.ending) o.moves o.flips b a ≡ run_line m s tape
+  unfolding lent run_answer
+  accepted_line b u w a o q e h =
+      rw q (ap (effect_line m) (on_a_map m s tape lent lent (run_answer o u w a) e (rw q at h)))
+
+  pub refused_run : (r : Refusal) → number_of r ≡ verdict m → refused_line (number_of r) ≡ run_line m s tape
+  unfolding run_answer
+  refused_run r e = ap (effect_line m) (no_map m s tape lent lent r e)
 
 -- what a whole input is
 pub record Whole (x : List ℕ) : Type 0 where
@@ -108,9 +125,9 @@ module _ (m s tape : List ℕ) where
 
 -- ---- the call
 
-pub prints : (x out v : List ℕ) (n : ℕ) → line_room ≤ length out → length (line_of x) ≤ length out → Wrote 0 (line_of x) out v n → line_answer n v ≡ line_effect x out
+pub prints : (x out text : List ℕ) (n : ℕ) → line_room ≤ length out → text ≡ line_of x → n ≡ length text → line_answer n (text ++ drop n out) ≡ line_effect x out
 unfolding line_effect
-prints x out v n h l p = let (q, e) = wrote_over (line_of x) out v n l p in rw (le-leb line_room (length out) h, q, e)
+prints x out text n h e l = rw (le-leb line_room (length out) h, l, e)
 
 pub prints_nothing : (x out : List ℕ) → length out < line_room → line_answer 0 out ≡ line_effect x out
 unfolding line_effect

@@ -1,21 +1,33 @@
 -- The row's text, gate by gate. Assumes nothing.
 use Prim.Native.Nat.{ℕ, zero, suc, ◌+◌, ◌<◌}
 use mathlib.Core.Path.{◌≡◌, refl, sym, ap, ◌∙◌}
+use mathlib.Core.Bool.{true, false}
 use mathlib.Core.Logic.{inl, inr}
-use mathlib.Core.List.{List, [], ◌∷◌, ◌++◌, map}
+use mathlib.Core.List.{List, [], ◌∷◌, ◌++◌, map, append-nil, append_assoc}
 use native.Mathlib.Numerals.{add-one}
 use native.Mathlib.Omega.{arith}
 use lib.ListN.{get_or, take}
 use lib.Seq.{get_or-take}
 use Rattle.folds.proofs.Tests.{which}
 use Rattle.circuit.specs.Tools.{up_to, select}
+use denote.Enum.Bare.{sameb}
+use Rattle.circuit.specs.declared.Kind.{Kind}
+use Rattle.circuit.specs.declared.Kind.TheVariants.{Input, Not, And, Or, Xor}
+use Rattle.circuit.specs.contracts.Kind.{the_type}
 use Rattle.circuit.specs.Gate.{kind_of, is_input}
 use Rattle.circuit.specs.Evaluate.{row_of}
 use Rattle.map.specs.Map.{gate_count, kind_byte}
 use Rattle.line.specs.Text.{digit}
-use Rattle.line.specs.Inner.{Wrote, input_text, row_below}
+use Rattle.line.specs.Inner.{input_text, row_below}
 use Rattle.line.specs.Line.{row_text}
-use Rattle.line.proofs.Writing.{wrote_then}
+
+-- an input by the code's test
+same_input : (k : Kind) → sameb the_type k Input ≡ is_input k
+same_input Input = refl
+same_input Not = refl
+same_input And = refl
+same_input Or = refl
+same_input Xor = refl
 
 module _ (m ans : List ℕ) where
   abbrev taken : List ℕ → List ℕ
@@ -34,13 +46,24 @@ module _ (m ans : List ℕ) where
   below zero = refl
   below (suc n) = rw (below n) (sym (taken_append (up_to n) n))
 
-  pub row_none : row_below m ans 0 ≡ []
+  pub row_none : (x : List ℕ) → x ≡ x ++ row_below m ans 0
   unfolding row_below
-  row_none = refl
+  row_none x = sym (append-nil x)
 
-  pub row_next : (at g e f : ℕ) (w v u : List ℕ) → Wrote at (row_below m ans g) w v e → Wrote e (input_text m ans g) v u f → Wrote at (row_below m ans (g + 1)) w u f
-  unfolding row_below
-  row_next at g e f w v u p q = rw (add-one g) (wrote_then at e f (row_below m ans g) (input_text m ans g) w v u p q)
+  -- behind the text y, which has the row below gate g, stands g's digit if it is an input, and else nothing
+  pub row_input : (x y : List ℕ) (g : ℕ) (k : Kind) → k ≡ kind_of (kind_byte m g) → sameb the_type k Input ≡ true → y ≡ x ++ row_below m ans g
+      → y ++ (digit (get_or ans g 0) ∷ []) ≡ x ++ row_below m ans (g + 1)
+  unfolding row_below input_text
+  row_input x y g k e q h =
+      let i : is_input (kind_of (kind_byte m g)) ≡ true = ap is_input (sym e) ∙ sym (same_input k) ∙ q in
+      rw (add-one g, i, h) (append_assoc x (row_below m ans g) (digit (get_or ans g 0) ∷ []))
+
+  pub row_other : (x y : List ℕ) (g : ℕ) (k : Kind) → k ≡ kind_of (kind_byte m g) → sameb the_type k Input ≡ false → y ≡ x ++ row_below m ans g
+      → y ≡ x ++ row_below m ans (g + 1)
+  unfolding row_below input_text
+  row_other x y g k e q h =
+      let i : is_input (kind_of (kind_byte m g)) ≡ false = ap is_input (sym e) ∙ sym (same_input k) ∙ q in
+      rw (add-one g, i, append-nil (row_below m ans g)) h
 
   pub row_whole : (n : ℕ) → n ≡ gate_count m → row_below m ans n ≡ row_text m ans
   unfolding row_of

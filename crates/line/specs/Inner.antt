@@ -1,14 +1,8 @@
--- For inner functions: text written into memory, and the row's text gate by gate. Assumes nothing.
-use Rattle.std.specs.Prelude.{ℕ, zero, suc, ◌+◌, ◌≡◌, cond, List, [], ◌∷◌, ◌++◌, length, get_or}
-use Rattle.std.proofs.lemmas.List.Edits.{sets}
+-- For inner functions: the row's text gate by gate. Assumes nothing.
+use Rattle.std.specs.Prelude.{ℕ, zero, suc, cond, List, [], ◌∷◌, ◌++◌, get_or}
 use Rattle.circuit.specs.Gate.{kind_of, is_input}
 use Rattle.map.specs.Map.{kind_byte}
 use Rattle.line.specs.Text.{digit}
-
--- The text x stands in memory from place `at` on and ends before place `end`; no other byte of w has changed.
-pub record Wrote (at : ℕ) (x w after : List ℕ) (end : ℕ) : Type 0 where
-  pub memory : after ≡ sets w at x
-  pub behind : end ≡ at + length x
 
 -- the digit of gate g's value, if it is an input; and those of the gates below n
 unfoldable pub input_text : List ℕ → List ℕ → ℕ → List ℕ

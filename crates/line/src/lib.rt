@@ -3,7 +3,6 @@
 
 mod parts;
 mod report;
-mod text;
 
 ghost use Rattle.std.specs.Prelude.{◌≡◌, ◌≤◌, length};
 ghost use Rattle.line.specs.Line.{line_answer, line_effect};
@@ -19,6 +18,7 @@ pub const LINE_ROOM: usize = 1100;
 
 // Writes the line for an input into the first bytes of `out` and returns how many they are. `LINE_ROOM` bytes hold any line: with less it writes nothing and
 // returns 0.
+#[tactic(auto, using(crate::proofs::Lines::prints, crate::proofs::Lines::prints_nothing))]
 pub fn line(input: &[u8], out: &mut [u8]) -> usize
     ensures out_after { line_answer result out.new ≡ line_effect input.now out.old }
     ensures upper_bound { result ≤ length out.old }
@@ -26,5 +26,8 @@ pub fn line(input: &[u8], out: &mut [u8]) -> usize
     if out.len() < LINE_ROOM {
         return 0;
     }
-    parts::put_line(input, out)
+    let text = parts::line_of(input);
+    let size = text.len();
+    out[..size].copy_from_slice(text.as_str().as_bytes());
+    size
 }

@@ -1,35 +1,42 @@
 // The parts of an input, and the line of the run on them.
 ghost use Rattle.std.specs.Prelude.{◌≡◌, ◌≤◌, length};
-ghost use Rattle.line.specs.Inner.{Wrote};
-ghost use Rattle.line.specs.Line.{most_input, line_room, run_line, input_test, line_of};
+ghost use Rattle.line.specs.Line.{most_input, run_line, input_test, line_of};
 
-use super::{MOST_INPUT, report, text};
-use map::{MOST_GATES, decode};
+use super::MOST_INPUT;
+use super::report::{Text, ran, refused};
+use map::{MOST_GATES, word};
 
-// Runs, with work and answer memory for every map, and writes the line.
-fn put_run(map: &[u8], configuration: &mut [u8], tape: &[u8], out: &mut [u8]) -> usize
-    requires { line_room ≤ length out.old }
-    ensures { Wrote 0 (run_line map.now configuration.old tape.now) out.old out.new result
-        × (result ≤ line_room) }
+// Runs, with work and answer memory for every map.
+#[tactic(auto, using(crate::proofs::Lines::accepted_line, crate::proofs::Lines::refused_run))]
+fn run(map: &[u8], configuration: &mut [u8], tape: &[u8]) -> Text
+    ensures { result.bytes ≡ run_line map.now configuration.old tape.now }
 {
     let mut work = [0u8; MOST_GATES];
     let mut answer = [0u8; MOST_GATES];
-    let outcome = search::run(map, configuration, tape, &mut work, &mut answer);
-    let ending = outcome.ending;
-    let moves = outcome.moves;
-    let flips = outcome.flips;
-    report::put_report(ending, moves, flips, map, &answer, out)
+    match map::accept(map) {
+        Ok(accepted) => {
+            let outcome = search::run_accepted(
+                accepted,
+                configuration,
+                tape,
+                &mut work,
+                &mut answer,
+            );
+            ran(outcome, accepted, &answer)
+        }
+        Err(refusal) => refused(u8::from(refusal)),
+    }
 }
 
 // The same on a copy of the configuration, which a run changes.
-fn put_parts(map: &[u8], configuration: &[u8], tape: &[u8], out: &mut [u8]) -> usize
-    requires { (length configuration.now ≤ most_input) × (line_room ≤ length out.old) }
-    ensures { Wrote 0 (run_line map.now configuration.now tape.now) out.old out.new result
-        × (result ≤ line_room) }
+fn run_on_copy(map: &[u8], configuration: &[u8], tape: &[u8]) -> Text
+    requires { length configuration.now ≤ most_input }
+    ensures { result.bytes ≡ run_line map.now configuration.now tape.now }
 {
     let mut space = [0u8; MOST_INPUT];
-    let n = text::put_all(configuration, &mut space, 0);
-    put_run(map, &mut space[..n], tape, out)
+    let copy = &mut space[..configuration.len()];
+    copy.copy_from_slice(configuration);
+    run(map, copy, tape)
 }
 
 // Is the input exactly its parts, and not too long?
@@ -43,20 +50,19 @@ fn is_whole(input: &[u8]) -> bool
     if input.len() < 6 {
         return false;
     }
-    let bodies = decode::word(input, 0) + decode::word(input, 2) + decode::word(input, 4);
+    let bodies = word(input, 0) + word(input, 2) + word(input, 4);
     input.len() == 6 + bodies
 }
 
-// Writes the line for an input.
+// The line for an input.
 #[tactic(auto, using(crate::proofs::Lines::line_refused, crate::proofs::Lines::line_runs, crate::proofs::Lines::whole))]
-pub fn put_line(input: &[u8], out: &mut [u8]) -> usize
-    requires { line_room ≤ length out.old }
-    ensures { Wrote 0 (line_of input.now) out.old out.new result × (result ≤ line_room) }
+pub fn line_of(input: &[u8]) -> Text
+    ensures { result.bytes ≡ line_of input.now }
 {
     if !is_whole(input) {
-        return report::put_refused(0, out);
+        return refused(0);
     }
-    let a = 6 + decode::word(input, 0);
-    let b = a + decode::word(input, 2);
-    put_parts(&input[6..a], &input[a..b], &input[b..], out)
+    let a = 6 + word(input, 0);
+    let b = a + word(input, 2);
+    run_on_copy(&input[6..a], &input[a..b], &input[b..])
 }

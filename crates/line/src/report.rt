@@ -1,114 +1,120 @@
 // The line of a run.
-ghost use Rattle.std.specs.Prelude.{◌≡◌, ◌+◌, ◌<◌, ◌≤◌, length, true};
+ghost use Rattle.std.specs.Prelude.{◌≡◌, [], ◌∷◌, ◌++◌, ◌+◌, ◌<◌, ◌≤◌, length};
+ghost use Rattle.arrayvec.specs.ArrayString.{array_string_len};
 ghost use Rattle.circuit.specs.Run.{told};
-ghost use Rattle.map.specs.Map.{most_gates, gate_count};
-ghost use Rattle.map.specs.Inner.{Shaped};
-ghost use Rattle.line.specs.Inner.{Wrote, input_text};
+ghost use Rattle.line.specs.Text.{decimal, digit};
 ghost use Rattle.line.specs.Line.{line_room, row_text, counts_text, found_line, spent_line, stuck_line, refused_line, report};
 
-use super::text;
-use circuit::Ending;
-use map::decode;
+use super::LINE_ROOM;
+use arrayvec::ArrayString;
+use circuit::{Ending, Kind, Outcome};
+use itoa::Buffer;
+use map::Map;
 
-// The digit of gate g's value, if it is an input.
-#[tactic(auto, using(crate::proofs::Writing::wrote_nothing, kinds::proofs::Bytes::gate_kind, kinds::proofs::Bytes::input_kind), unfolding(crate::specs::Inner::input_text))]
-fn put_input(map: &[u8], g: usize, answer: &[u8], out: &mut [u8], at: usize) -> usize
-    requires shaped { Shaped map.now × ((g < gate_count map.now) × (g < length answer.now)) }
-    requires at_in_bounds { at < length out.old }
-    ensures { Wrote at (input_text map.now answer.now g) out.old out.new result × (result ≤ at + 1) }
+// A line, or its front. (Not written by `write!`: its contract lets it fail even where there is room.)
+pub type Text = ArrayString<LINE_ROOM>;
+
+// Appends a number in decimal.
+#[tactic(auto, using(crate::proofs::Writing::decimal_printed))]
+fn push_number(text: &mut Text, number: u32)
+    requires { array_string_len text.old + 10 ≤ line_room }
+    ensures bytes { text.new.bytes ≡ text.old.bytes ++ decimal number }
+    ensures short { array_string_len text.new ≤ array_string_len text.old + 10 }
 {
-    if decode::kind(map, g) == 0 {
-        return text::put(text::value_digit(answer[g]), out, at);
-    }
-    at
+    let mut digits = Buffer::new();
+    text.push_str(digits.format(number));
 }
 
-// The row.
-fn put_row(map: &[u8], gates: usize, answer: &[u8], out: &mut [u8], at: usize) -> usize
-    requires shaped { Shaped map.now × ((gates ≡ gate_count map.now) × (gates ≤ length answer.now)) }
-    requires gates_in_bounds { at + gates ≤ length out.old }
-    ensures { Wrote at (row_text map.now answer.now) out.old out.new result × (result ≤ at + gates) }
+// The digit of a value 0 or 1.
+fn digit_of(value: u8) -> &'static str
+    ensures { result.now ≡ digit value ∷ [] }
 {
-    let mut end = at;
-    let mut g = 0;
-    while g < gates {
-        end = put_input(map, g, answer, out, end);
-        g += 1;
+    if value == 1 { "1" } else { "0" }
+}
+
+// Appends the row: the digit of each input.
+#[tactic(auto, using(crate::proofs::Rows::row_none, crate::proofs::Rows::row_input, crate::proofs::Rows::row_other, crate::proofs::Rows::row_whole))]
+fn push_row(text: &mut Text, map: Map, answer: &[u8])
+    requires answers { map.gates ≤ length answer.now }
+    requires room { array_string_len text.old + map.gates ≤ line_room }
+    ensures bytes { text.new.bytes ≡ text.old.bytes ++ row_text map.entry.bytes.now answer.now }
+    ensures short { array_string_len text.new ≤ array_string_len text.old + map.entry.gates }
+{
+    for g in 0..map.gates {
+        if map.kind(g) == Kind::Input {
+            text.push_str(digit_of(answer[g]));
+        }
     }
-    end
 }
 
 // The word, moves and flips.
-fn put_counts(word: &[u8], moves: u16, flips: u32, out: &mut [u8]) -> usize
-    requires { (length word.now ≤ 8) × (30 ≤ length out.old) }
-    ensures { Wrote 0 (counts_text word.now moves flips) out.old out.new result × (result ≤ 30) }
+fn counts(word: &str, moves: u16, flips: u32) -> Text
+    requires { length word.now ≤ 8 }
+    ensures text { result.bytes ≡ counts_text word.now moves flips }
+    ensures short { array_string_len result ≤ 30 }
 {
-    let a = text::put_all(word, out, 0);
-    let b = text::put_decimal(moves as u32, 10, out, a);
-    let c = text::put(b' ', out, b);
-    text::put_decimal(flips, 10, out, c)
+    let mut text = Text::new();
+    text.push_str(word);
+    push_number(&mut text, u32::from(moves));
+    text.push_str(" ");
+    push_number(&mut text, flips);
+    text
 }
 
 // `FOUND moves flips row`
-fn put_found(map: &[u8], moves: u16, flips: u32, answer: &[u8], out: &mut [u8]) -> usize
-    requires { Shaped map.now × ((most_gates ≤ length answer.now) × (line_room ≤ length out.old)) }
-    ensures { Wrote 0 (found_line moves flips map.now answer.now) out.old out.new result
-        × (result ≤ line_room) }
+fn found(map: Map, moves: u16, flips: u32, answer: &[u8]) -> Text
+    requires { map.gates ≤ length answer.now }
+    ensures { result.bytes ≡ found_line moves flips map.entry.bytes.now answer.now }
 {
-    let n = decode::read_contents(map);
-    let a = put_counts(b"FOUND ", moves, flips, out);
-    let b = text::put(b' ', out, a);
-    let c = put_row(map, n.gates, answer, out, b);
-    text::put(b'\n', out, c)
+    let mut text = counts("FOUND ", moves, flips);
+    text.push_str(" ");
+    push_row(&mut text, map, answer);
+    text.push_str("\n");
+    text
 }
 
 // `SPENT moves flips front`
-fn put_spent(moves: u16, flips: u32, front: u16, out: &mut [u8]) -> usize
-    requires { line_room ≤ length out.old }
-    ensures { Wrote 0 (spent_line moves flips front) out.old out.new result × (result ≤ line_room) }
+fn spent(moves: u16, flips: u32, front: u16) -> Text
+    ensures { result.bytes ≡ spent_line moves flips front }
 {
-    let a = put_counts(b"SPENT ", moves, flips, out);
-    let b = text::put(b' ', out, a);
-    let c = text::put_decimal(front as u32, 10, out, b);
-    text::put(b'\n', out, c)
+    let mut text = counts("SPENT ", moves, flips);
+    text.push_str(" ");
+    push_number(&mut text, u32::from(front));
+    text.push_str("\n");
+    text
 }
 
 // `STUCK moves flips`
-fn put_stuck(moves: u16, flips: u32, out: &mut [u8]) -> usize
-    requires { line_room ≤ length out.old }
-    ensures { Wrote 0 (stuck_line moves flips) out.old out.new result × (result ≤ line_room) }
+fn stuck(moves: u16, flips: u32) -> Text
+    ensures { result.bytes ≡ stuck_line moves flips }
 {
-    let a = put_counts(b"STUCK ", moves, flips, out);
-    text::put(b'\n', out, a)
+    let mut text = counts("STUCK ", moves, flips);
+    text.push_str("\n");
+    text
 }
 
-// `REFUSED number`
-pub fn put_refused(number: u8, out: &mut [u8]) -> usize
-    requires { line_room ≤ length out.old }
-    ensures { Wrote 0 (refused_line number) out.old out.new result × (result ≤ line_room) }
+// `REFUSED number` (a number, as the program's own 0 is no call's refusal)
+pub fn refused(number: u8) -> Text
+    ensures { result.bytes ≡ refused_line number }
 {
-    let a = text::put_all(b"REFUSED ", out, 0);
-    let b = text::put_decimal(number as u32, 10, out, a);
-    text::put(b'\n', out, b)
+    let mut text = Text::new();
+    text.push_str("REFUSED ");
+    push_number(&mut text, u32::from(number));
+    text.push_str("\n");
+    text
 }
 
-// The line of an ending.
-pub fn put_report(
-    ending: Ending,
-    moves: u16,
-    flips: u32,
-    map: &[u8],
-    answer: &[u8],
-    out: &mut [u8],
-) -> usize
-    requires { ((told ending).found ≡ true → Shaped map.now) × ((most_gates ≤ length answer.now) × (line_room ≤ length out.old)) }
-    ensures { Wrote 0 (report (told ending) moves flips map.now answer.now) out.old out.new result
-        × (result ≤ line_room) }
+// The line of a run on an accepted map.
+pub fn ran(outcome: Outcome, map: Map, answer: &[u8]) -> Text
+    requires { map.gates ≤ length answer.now }
+    ensures { result.bytes ≡ report (told outcome.ending) outcome.moves outcome.flips map.entry.bytes.now answer.now }
 {
-    match ending {
-        Ending::Found => put_found(map, moves, flips, answer, out),
-        Ending::Spent(front) => put_spent(moves, flips, front, out),
-        Ending::Stuck => put_stuck(moves, flips, out),
-        Ending::Refused(number) => put_refused(number, out),
+    let moves = outcome.moves;
+    let flips = outcome.flips;
+    match outcome.ending {
+        Ending::Found => found(map, moves, flips, answer),
+        Ending::Spent(front) => spent(moves, flips, front),
+        Ending::Stuck => stuck(moves, flips),
+        Ending::Refused(refusal) => refused(u8::from(refusal)),
     }
 }

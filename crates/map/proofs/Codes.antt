@@ -11,7 +11,7 @@ use lib.Dec.{eqb}
 use borrow.Author.Tests.{eqb-true, eq-eqb, ne_eqb}
 use Rattle.folds.proofs.Tests.{which}
 use Rattle.map.specs.Map.{code_count, code_gate, code_value, code_among}
-use Rattle.map.proofs.Accepted.{steps}
+use Rattle.map.proofs.Facts.{steps}
 
 -- a gate's code has a record
 pub code_record : (m : List ℕ) (n g : ℕ) (v : Bool) → code_among m n g ≡ some v → (r : ℕ) × (r < n) × (code_gate m r ≡ g) × (v ≡ eqb (code_value m r) 1)

@@ -23,7 +23,7 @@ use Rattle.kinds.specs.Kinds.{kind_fits}
 use Rattle.map.specs.Check.{offsets_test, kind_test, position_test, positions_test, child_test, children_test, code_test, first_failed, contents_tests, bodies_tests, map_tests, verdict, check_effect, Laid, Summed, Ordered, CodesAllowed, Described, MapAccepts, Test, passes, fails, MapNumber, CheckNumber, CheckAccepts, CheckDoes, CheckRefuses, AcceptedMaps}
 use Rattle.kinds.proofs.Bytes.{gate_kind}
 use Rattle.map.proofs.Laws.{past, stop, no_test, contents_tests_lem}
-use Rattle.map.proofs.Accepted.{ascends, contents, bodies_tests_lem, facts, kids_length, well_formed}
+use Rattle.map.proofs.Facts.{ascends, contents, bodies_tests_lem, facts, kids_length, well_formed}
 use Rattle.map.proofs.Codes.{code_record, code_found}
 
 -- ---- a test and its fact

@@ -1,5 +1,5 @@
 -- Laws of the definitions of specs/. Assumes nothing.
-use Prim.Native.Nat.{ℕ, zero, suc, ◌+◌, ◌*◌, ◌-◌, ◌<◌, ◌≤◌}
+use Prim.Native.Nat.{ℕ, zero, suc, ◌+◌, ◌<◌, ◌≤◌}
 use mathlib.Core.Path.{◌≡◌, refl, sym, ◌∙◌}
 use mathlib.Core.Bool.{Bool, true, false}
 use mathlib.Core.Logic.{inl, inr}
@@ -7,11 +7,11 @@ use mathlib.Core.List.{List, [], ◌∷◌, ◌++◌}
 use native.Mathlib.Nat.{le_of_suc-le-suc, eq-or-lt_of_le}
 use native.Mathlib.Numerals.{add-one}
 use native.Mathlib.Omega.{arith}
-use lib.Dec.{eqb, ltb, leb}
+use lib.Dec.{eqb, leb}
 use lib.ListN.{length, get_or, set, replicate}
 use lib.Seq.{get_or-set_same, get_or-set_other}
 use borrow.Author.Tests.{eqb-true, eqb-false, ltb-true, leb-true}
-use Rattle.folds.specs.Folds.{◌and◌, ◌or◌, all_below}
+use Rattle.folds.specs.Folds.{◌and◌, all_below}
 use Rattle.folds.proofs.Tests.{which, and_left, and_right, and_first_false, and_past}
 use Rattle.folds.proofs.Loops.{all_at, all_fails}
 use Rattle.circuit.specs.Tools.{byte}
@@ -19,9 +19,9 @@ use Rattle.circuit.specs.Gate.{is_input, kind_of}
 use Rattle.circuit.specs.Circuit.{coded}
 use Rattle.circuit.specs.Evaluate.{inputs_before}
 use Rattle.circuit.proofs.Lists.{place_more}
-use Rattle.map.specs.Map.{most_gates, gate_count, child_count, code_count, kind_byte, fan_in, first_child, fan_ins_before, codes_place, code_gate, code_among, circuit}
+use Rattle.map.specs.Map.{most_gates, gate_count, child_count, code_count, kind_byte, fan_in, first_child, fan_ins_before, code_gate, code_among, circuit}
 use Rattle.map.specs.Check.{offsets_test, position_test, positions_test, child_test, children_test, code_test, first_failed, contents_tests}
-use Rattle.map.specs.Inner.{Shaped, Placed, Sound, CodeMarks}
+use Rattle.map.specs.Inner.{Shaped, PlacesChildren, Placed, Sound, CodeMarks}
 
 -- ---- the sum of the fan-ins
 
@@ -32,16 +32,6 @@ fans_none m = refl
 pub fans_more : (m : List ℕ) (g : ℕ) → fan_ins_before m (g + 1) ≡ fan_ins_before m g + fan_in m g
 unfolding fan_ins_before
 fans_more m g = rw add-one
-
--- a gate more, by the total so far and the gate's fan-in
-pub fans_step : (m : List ℕ) (g total fan-in : ℕ) → total ≡ fan_ins_before m g → fan-in ≡ fan_in m g → total + fan-in ≡ fan_ins_before m (g + 1)
-fans_step m g total fan-in t f = rw (t, f) (sym (fans_more m g))
-
--- a fan-in is a byte, so the sum is small
-pub fans_small : (m : List ℕ) (g : ℕ) → ((i : ℕ) → get_or m i 0 < 256) → fan_ins_before m g ≤ 255 * g
-unfolding fan_ins_before
-fans_small m zero small = omega arith
-fans_small m (suc g) small = omega (arith, fans_small m g small, small (13 + 4 * g))
 
 -- a gate's stretch of children ends by the sum of the fan-ins
 fans_within : (m : List ℕ) (n g : ℕ) → g < n → fan_ins_before m g + fan_in m g ≤ fan_ins_before m n
@@ -58,18 +48,18 @@ pub shaped_of : (m : List ℕ) → gate_count m ≤ most_gates → offsets_test 
 unfolding offsets_test
 shaped_of m l t = record { few = l; long = eqb-true _ _ (and_right _ _ t) }
 
-pub placed_of : (m : List ℕ) → Shaped m → positions_test m ≡ true → Placed m
+pub places_children : (m : List ℕ) → positions_test m ≡ true → PlacesChildren m
 unfolding positions_test position_test
-placed_of m s t = record {
-  shaped = s;
-  within = λ g l.
-      omega (
-        arith,
-        fans_within m (gate_count m) g l,
-        eqb-true (first_child m g) (fan_ins_before m g) (all_at (position_test m) (gate_count m) g (and_left _ _ t) l),
-        eqb-true (fan_ins_before m (gate_count m)) (child_count m) (and_right _ _ t),
-      );
-}
+places_children m t g l =
+    omega (
+      arith,
+      fans_within m (gate_count m) g l,
+      eqb-true (first_child m g) (fan_ins_before m g) (all_at (position_test m) (gate_count m) g (and_left _ _ t) l),
+      eqb-true (fan_ins_before m (gate_count m)) (child_count m) (and_right _ _ t),
+    )
+
+pub placed_of : (m : List ℕ) → Shaped m → positions_test m ≡ true → Placed m
+placed_of m s t = record { shaped = s; within = places_children m t }
 
 -- ---- lists of tests
 
@@ -85,6 +75,8 @@ stop k b ts h = rw h
 pub no_test : first_failed [] ≡ 0
 unfolding first_failed
 no_test = refl
+
+pub ruleset tests_by = (past, stop, no_test)
 
 -- a list of tests none of which fails
 pub none_failed : (k : ℕ) (b : Bool) (ts : List (ℕ × Bool)) → first_failed ((suc k, b) ∷ ts) ≡ 0 → (b ≡ true) × (first_failed ts ≡ 0)
@@ -133,12 +125,7 @@ mark_some m marks x k h = marked (coded (circuit m) x) (λ q. h (k x ∙ q))
     marked true q = refl
     marked false q = absurd (q refl)
 
--- ---- test 5, by what the code reads and the total that it keeps
-
--- at a gate
-pub position_test_lem : (m : List ℕ) (g first total : ℕ) → first ≡ first_child m g → total ≡ fan_ins_before m g → eqb first total ≡ position_test m g
-unfolding position_test
-position_test_lem m g first total p t = rw (p, t)
+-- ---- test 5, by the total that the code keeps
 
 -- a gate at which it fails
 pub position_fails : (m : List ℕ) (g : ℕ) → g < gate_count m → position_test m g ≡ false → false ≡ positions_test m
@@ -150,16 +137,6 @@ pub positions_done : (m : List ℕ) (g total children : ℕ) → g ≡ gate_coun
     → eqb total children ≡ positions_test m
 unfolding positions_test
 positions_done m g total children e c a t = rw (t, c, ← e) (sym (and_past _ _ a))
-
--- ---- test 7 at a code, by what the code reads
-
-abbrev pub code_test_by : List ℕ → ℕ → ℕ → ℕ → ℕ → Bool
-code_test_by m n start r x =
-    ltb x n and (eqb r 0 or ltb (code_gate m (r - 1)) x) and leb (get_or m (start + 4 * r + 2) 0) 1 and eqb (get_or m (start + 4 * r + 3) 0) 0
-
-pub code_test_lem : (m : List ℕ) (n start r x : ℕ) → n ≡ gate_count m → start ≡ codes_place m → x ≡ code_gate m r → code_test m r ≡ code_test_by m n start r x
-unfolding code_test
-code_test_lem m n start r x s p q = rw (p, q, s)
 
 -- ---- all tests
 

@@ -1,8 +1,6 @@
 pub mod Laws
-pub mod Accepted
+pub mod Facts
 pub mod Parts
 pub mod Answers
 pub mod Codes
 pub mod Described
-pub mod Contents
-pub mod CodeTest

@@ -8,14 +8,13 @@ use native.Mathlib.Omega.{arith}
 use lib.ListN.{length, take, drop, length-drop}
 use lib.Seq.{length-take-le, get_or-take, get_or-drop}
 use borrow.Author.Tests.{eq-eqb, ne_eqb, eqb-true, le-ltb, lt-ltb, ltb-true}
-use denote.Ref.{Bor}
 use Rattle.folds.proofs.Tests.{which, and_left, and_right, and_both, and_first_false, and_second_false}
 use Rattle.circuit.specs.Gate.{is_input, kind_of}
-use Rattle.map.specs.Map.{most_gates, u16_at, gate_count, child_count, length_given, children_place, kind_byte, fan_in, first_child, child_at}
+use Rattle.map.specs.Map.{u16_at, gate_count, children_place, kind_byte, fan_in, first_child, child_at}
 use Rattle.kinds.specs.Kinds.{kind_fits}
 use Rattle.map.specs.Check.{kind_test, verdict}
-use Rattle.map.specs.Children.{has_gate, stretch_place, stretch_length, children_answer, children_effect, ChildrenDoes}
-use Rattle.map.proofs.Accepted.{facts}
+use Rattle.map.specs.Children.{has_gate, stretch_place, stretch_length, children_effect, ChildrenDoes}
+use Rattle.map.proofs.Facts.{facts}
 
 -- ---- which gates have one
 
@@ -30,33 +29,6 @@ past_end m g h = and_second_false _ _ (le-ltb g (gate_count m) h)
 pub has_gate_lem : (m : List ℕ) (g : ℕ) → verdict m ≡ 0 → g < gate_count m → has_gate m g ≡ true
 unfolding has_gate
 has_gate_lem m g v h = and_both _ _ (eq-eqb (verdict m) 0 v) (lt-ltb g (gate_count m) h)
-
--- ---- where its children are
-
-pub accepted_long : (m : List ℕ) → verdict m ≡ 0 → 12 ≤ length m
-accepted_long m v = omega (arith, (facts m v).sound.placed.shaped)
-
-pub accepted_few : (m : List ℕ) → verdict m ≡ 0 → gate_count m ≤ most_gates
-accepted_few m v = (facts m v).sound.placed.shaped.few
-
-pub accepted_given : (m : List ℕ) → verdict m ≡ 0 → length m ≡ length_given m
-accepted_given m v = (facts m v).sound.placed.shaped.long
-
-pub accepted_within : (m : List ℕ) (g : ℕ) → verdict m ≡ 0 → g < gate_count m → first_child m g + fan_in m g ≤ child_count m
-accepted_within m g v h = (facts m v).sound.placed.within g h
-
--- ---- the part
-
-pub empty_part : (m r : Bor (List ℕ)) (g : ℕ) → r.ref_ptr ≡ (m.ref_ptr.0, 0 + m.ref_ptr.1) → r.now ≡ take 0 (drop 0 m.now) → has_gate m.now g ≡ false
-    → children_answer r ≡ children_effect m g
-unfolding stretch_place stretch_length children_answer children_effect
-empty_part m r g p b h = rw (h, p, b)
-
-pub whole_part : (m r : Bor (List ℕ)) (g a n : ℕ) → r.ref_ptr ≡ (m.ref_ptr.0, a + m.ref_ptr.1) → r.now ≡ take n (drop a m.now)
-    → a ≡ children_place m.now + 2 * first_child m.now g → n ≡ 2 * fan_in m.now g → has_gate m.now g ≡ true
-    → children_answer r ≡ children_effect m g
-unfolding stretch_place stretch_length children_answer children_effect
-whole_part m r g a n p b s l h = rw (h, ← s, ← l, p, b)
 
 -- ---- what the stretch holds
 

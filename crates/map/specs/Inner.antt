@@ -1,28 +1,32 @@
 -- For inner functions: what they are given of a map. Assumes nothing.
 use Rattle.std.specs.Prelude.{ℕ, ◌+◌, ◌<◌, ◌≤◌, ◌≡◌, true, List, length, get_or}
 use Rattle.circuit.specs.Tools.{byte}
+use Rattle.circuit.specs.declared.Kind.{Kind}
+use Rattle.circuit.specs.Gate.{kind_of}
 use Rattle.circuit.specs.Circuit.{is_some}
-use Rattle.map.specs.Map.{most_gates, gate_count, child_count, code_count, length_given, fan_in, first_child, child_at, code_gate, code_value, code_among, input_count}
-use Rattle.map.specs.declared.Counts.{Counts}
-use Rattle.map.specs.declared.decode.Contents.{Contents}
+use Rattle.map.specs.Map.{most_gates, gate_count, child_count, code_count, length_given, kind_byte, fan_in, first_child, child_at, code_gate, code_value, code_among}
 use Rattle.map.specs.Check.{kind_test}
 
--- n are the counts of the table of contents
-pub record ContentsOf (m : List ℕ) (n : Contents) : Type 0 where
-  pub gates : n.gates ≡ gate_count m
-  pub children : n.children ≡ child_count m
-  pub codes : n.codes ≡ code_count m
-  pub words : (n.gates < 65536) × ((n.children < 65536) × (n.codes < 65536))
+-- these are the counts of the table of contents
+pub record ContentsOf (m : List ℕ) (gates children codes : ℕ) : Type 0 where
+  pub gates_is : gates ≡ gate_count m
+  pub children_is : children ≡ child_count m
+  pub codes_is : codes ≡ code_count m
+  pub words : (gates < 65536) × ((children < 65536) × (codes < 65536))
 
 -- what is used of tests 1 to 3
 pub record Shaped (m : List ℕ) : Type 0 where
   pub few : gate_count m ≤ most_gates
   pub long : length m ≡ length_given m
 
--- what is used of tests 1 to 3 and 5: no gate's children go past the last child
+-- what is used of test 5: no gate's children go past the last child
+abbrev pub PlacesChildren : List ℕ → Type 0
+PlacesChildren m = (g : ℕ) → g < gate_count m → first_child m g + fan_in m g ≤ child_count m
+
+-- of tests 1 to 3 and 5
 pub record Placed (m : List ℕ) : Type 0 where
   pub shaped : Shaped m
-  pub within : (g : ℕ) → g < gate_count m → first_child m g + fan_in m g ≤ child_count m
+  pub within : PlacesChildren m
 
 -- and of 6 and 7
 pub record Sound (m : List ℕ) : Type 0 where
@@ -39,22 +43,17 @@ pub record IsMap (m : List ℕ) : Type 0 where
   pub codes_ascend : (r : ℕ) → r + 1 < code_count m → code_gate m r < code_gate m (r + 1)
   pub code_values : (r : ℕ) → r < code_count m → code_value m r ≤ 1
 
--- What inner functions are given: a map with these facts, as every accepted one has, and its counts, as Check answers them
-pub record Counted (m : List ℕ) (n : Counts) : Type 0 where
-  pub is : IsMap m
-  pub gates : n.gates ≡ gate_count m
-  pub inputs : n.inputs ≡ input_count m
-  pub children : n.children ≡ child_count m
-  pub codes : n.codes ≡ code_count m
+-- number, kind, fan-in and first child position of a gate, as its record gives them
+pub record GateOf (m : List ℕ) (g : ℕ) (kind : Kind) (fan first : ℕ) : Type 0 where
+  pub known : g < gate_count m
+  pub kind_is : kind ≡ kind_of (kind_byte m g)
+  pub fan_is : fan ≡ fan_in m g
+  pub first_is : first ≡ first_child m g
 
 -- x is child j of gate g, and it is below g
 pub record KidOf (m : List ℕ) (g j x : ℕ) : Type 0 where
   pub is : x ≡ child_at m g j
   pub below : x < g
-
--- the counts of a map
-unfoldable pub counts_of : List ℕ → Counts
-counts_of m = record { gates = gate_count m; inputs = input_count m; children = child_count m; codes = code_count m }
 
 -- marks has 1 at each gate that one of the first n codes fixes, and 0 elsewhere
 abbrev pub CodeMarks : List ℕ → ℕ → List ℕ → Type 0

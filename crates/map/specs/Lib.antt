@@ -2,3 +2,4 @@ pub mod Map
 pub mod Check
 pub mod Inner
 pub mod Children
+pub mod Accepts

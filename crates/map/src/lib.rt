@@ -1,6 +1,7 @@
 // Maps: Check, and the children of a gate.
 #![tactic(auto)]
 
+pub mod accepted;
 pub mod decode;
 mod tests;
 
@@ -8,10 +9,15 @@ ghost use Rattle.std.specs.Prelude.{◌≡◌};
 ghost use Rattle.map.specs.Check.{check_answer, check_effect};
 ghost use Rattle.map.specs.Children.{children_answer, children_effect};
 
+pub use accepted::{Gate, Map};
+use circuit::Refusal;
+pub use decode::word;
+pub use tests::accept;
+
 // A map has 1 to this many gates.
 pub const MOST_GATES: usize = 1024;
 
-#[derive(Clone, Copy)]
+#[derive(Clone, Copy, Debug, PartialEq, Eq)]
 pub struct Counts {
     pub gates: usize,
     pub inputs: usize,
@@ -19,36 +25,32 @@ pub struct Counts {
     pub codes: usize,
 }
 
-// Check's answer: the counts of an accepted map, or the number of the first test that fails.
-#[derive(Clone, Copy)]
-pub enum Checked {
-    Accepted(Counts),
-    Refused(u8),
-}
-
-pub fn check(map: &[u8]) -> Checked
+// The counts of an accepted map, or the first test that fails.
+#[tactic(auto, using(folds::proofs::Tests::bools, circuit::proofs::Refusals::number_some), unfolding(crate::specs::Check::check_answer, crate::specs::Check::check_effect))]
+pub fn check(map: &[u8]) -> Result<Counts, Refusal>
     ensures { check_answer result ≡ check_effect map.now }
 {
-    let number = tests::failed(map);
-    if number != 0 {
-        return Checked::Refused(number);
-    }
-    Checked::Accepted(decode::counts(map))
+    let accepted = accept(map)?;
+    Ok(Counts {
+        gates: accepted.gates,
+        inputs: accepted.inputs(),
+        children: accepted.children,
+        codes: accepted.codes,
+    })
 }
 
 // The stretch of the map that holds a gate's children: empty for an input, a gate past the end or a map that Check refuses.
-#[tactic(auto, using(crate::proofs::Parts::no_map, crate::proofs::Parts::past_end, crate::proofs::Parts::has_gate_lem, crate::proofs::Parts::accepted_long, crate::proofs::Parts::accepted_few, crate::proofs::Parts::accepted_given, crate::proofs::Parts::accepted_within), unfolding(crate::specs::Children::children_answer, crate::specs::Children::children_effect, crate::specs::Children::stretch_place, crate::specs::Children::stretch_length))]
+#[tactic(auto, using(crate::proofs::Parts::no_map, crate::proofs::Parts::past_end, crate::proofs::Parts::has_gate_lem), unfolding(crate::specs::Children::children_answer, crate::specs::Children::children_effect, crate::specs::Children::stretch_place, crate::specs::Children::stretch_length))]
 pub fn children(map: &[u8], gate: usize) -> &[u8]
     ensures { children_answer result ≡ children_effect map.entry gate }
 {
-    if tests::failed(map) != 0 {
+    let Ok(accepted) = accept(map) else {
+        return &map[0..0];
+    };
+    if accepted.gates <= gate {
         return &map[0..0];
     }
-    let n = decode::read_contents(map);
-    if n.gates <= gate {
-        return &map[0..0];
-    }
-    let a = decode::child_place(n.gates, decode::first_child(map, gate));
-    let e = a + 2 * decode::fan_in(map, gate);
-    &map[a..e]
+    let record = accepted.gate(gate);
+    let start = decode::child_place(accepted.gates, record.first);
+    &map[start..start + 2 * record.fan]
 }

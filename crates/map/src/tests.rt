@@ -1,243 +1,172 @@
 // The tests 1 to 7 of a map, each over all it concerns before the next.
-ghost use Rattle.std.specs.Prelude.{◌≡◌, ◌+◌, ◌-◌, ◌<◌, ◌≤◌, length, eqb, ltb};
+ghost use Rattle.std.specs.Prelude.{◌≡◌, ◌+◌, ◌-◌, ◌<◌, ◌≤◌, length, eqb, ltb, MatchOption};
 ghost use Rattle.folds.specs.Folds.{◌or◌, all_below};
-ghost use Rattle.map.specs.Map.{gate_count, code_count, codes_place, fan_in, fan_ins_before, code_gate};
+ghost use Rattle.circuit.specs.Refusal.{number_given};
+ghost use Rattle.map.specs.Map.{gate_count, code_count, fan_in, fan_ins_before};
 ghost use Rattle.map.specs.Check.{offsets_test, kind_test, position_test, positions_test, child_test, children_test, code_test};
-ghost use Rattle.map.specs.Check.{first_failed, contents_tests, bodies_tests, verdict};
-ghost use Rattle.map.specs.Inner.{ContentsOf, Shaped, Placed};
+ghost use Rattle.map.specs.Check.{first_failed, contents_tests, bodies_tests};
+ghost use Rattle.map.specs.Inner.{ContentsOf};
+ghost use Rattle.map.specs.Accepts.{IsTableOf, IsAccepted, TotalAfter};
 
-use super::decode::Contents;
-use super::{MOST_GATES, decode};
+use super::MOST_GATES;
+use super::accepted::Map;
+use super::decode::{Placed, Table, child_place, word};
+use circuit::Refusal;
 
-// Test 3.
-fn offsets_ok(map: &[u8], n: Contents) -> bool
-    requires in_bounds { 12 ≤ length map.now }
-    requires contents_of { ContentsOf map.now n }
-    ensures { result ≡ offsets_test map.now }
+// Test 3, by the counts of the table of contents.
+#[tactic(auto, using(folds::proofs::Tests::bools), unfolding(crate::specs::Check::offsets_test))]
+fn offsets_ok(bytes: &[u8], gates: usize, children: usize, codes: usize) -> bool
+    requires long { 12 ≤ length bytes.now }
+    requires contents { ContentsOf bytes.now gates children codes }
+    ensures { result ≡ offsets_test bytes.now }
 {
-    let children = decode::child_place(n.gates, 0);
-    let codes = decode::child_place(n.gates, n.children);
-    let end = codes + 4 * n.codes;
-    if decode::word(map, 0) != 12 {
-        return false;
+    let children_at = child_place(gates, 0);
+    let codes_at = child_place(gates, children);
+    word(bytes, 0) == 12
+        && word(bytes, 4) == children_at
+        && word(bytes, 8) == codes_at
+        && bytes.len() == codes_at + 4 * codes
+}
+
+// Tests 1 to 3.
+#[tactic(auto, using(crate::proofs::Laws::tests_by, folds::proofs::Tests::bools, crate::proofs::Laws::shaped_of), unfolding(crate::specs::Check::contents_tests))]
+pub fn table(bytes: &[u8]) -> Result<Table<'_>, Refusal>
+    ensures number { number_given result ≡ first_failed (contents_tests bytes.now) }
+    ensures table { IsTableOf bytes.entry result }
+{
+    if bytes.len() < 12 {
+        return Err(Refusal::ShortMap);
     }
-    if decode::word(map, 4) != children {
-        return false;
+    let gates = word(bytes, 2);
+    let children = word(bytes, 6);
+    let codes = word(bytes, 10);
+    if gates == 0 || MOST_GATES < gates {
+        return Err(Refusal::GateCount);
     }
-    if decode::word(map, 8) != codes {
-        return false;
+    if !offsets_ok(bytes, gates, children, codes) {
+        return Err(Refusal::Offsets);
     }
-    map.len() == end
+    Ok(Table {
+        bytes,
+        gates,
+        children,
+        codes,
+    })
 }
 
 // Test 4.
-fn kinds_ok(map: &[u8], n: Contents) -> bool
-    requires contents_of { ContentsOf map.now n }
-    requires shaped { Shaped map.now }
-    ensures { result ≡ all_below (gate_count map.now) (kind_test map.now) }
+fn kinds_ok(map: Table) -> bool
+    ensures { result ≡ all_below (gate_count map.entry.bytes.now) (kind_test map.entry.bytes.now) }
 {
-    let gates = n.gates;
-    let mut g = 0;
-    while g < gates {
-        if !kinds::fits(map[12 + 4 * g], map[13 + 4 * g]) {
-            return false;
-        }
-        g += 1;
-    }
-    true
+    (0..map.gates).all(|g| kinds::fits(map.bytes[12 + 4 * g], map.bytes[13 + 4 * g]))
 }
 
-// What test 5 gives at a gate: whether the gate's first child position is right, and the total for the next gate.
-#[derive(Clone, Copy)]
-pub struct Position {
-    pub right: bool,
-    pub total: usize,
-}
-
-// Test 5 at gate g. The total that comes in is the sum of all fan-ins before gate g, and the one that goes out the sum before gate g + 1.
-fn position_at(map: &[u8], g: usize, total: usize) -> Position
-    requires shaped { Shaped map.now × (g < gate_count map.now) }
-    requires total_value { total ≡ fan_ins_before map.now g }
-    ensures { (result.right ≡ position_test map.now g) × (result.total ≡ fan_ins_before map.now (g + 1)) }
+// Test 5 at gate g: the total for the next gate, if the position is right. The total that comes in is the sum of all fan-ins before gate g, and the one that goes out the sum before
+// gate g + 1.
+#[tactic(auto, using(crate::proofs::Laws::fans_more, folds::proofs::Tests::bools), unfolding(crate::specs::Check::position_test))]
+fn position_at(map: Table, g: usize, total: usize) -> Option<usize>
+    requires gate { g < map.gates }
+    requires total_value { total ≡ fan_ins_before map.bytes.now g }
+    ensures { TotalAfter map.entry.bytes.now g result }
 {
-    let next = total + decode::fan_in(map, g);
-    Position {
-        right: decode::first_child(map, g) == total,
-        total: next,
+    if map.first_child(g) == total {
+        Some(total + map.fan_in(g))
+    } else {
+        None
     }
 }
 
 // Test 5. One total is kept as the gates go by; after the last it must be the child count.
-fn positions_ok(map: &[u8], n: Contents) -> bool
-    requires contents_of { ContentsOf map.now n }
-    requires shaped { Shaped map.now }
-    ensures { result ≡ positions_test map.now }
+#[tactic(auto, using(folds::proofs::Loops::loops, crate::proofs::Laws::fans_none, crate::proofs::Laws::position_fails, crate::proofs::Laws::positions_done))]
+fn positions_ok(map: Table) -> bool
+    ensures { result ≡ positions_test map.entry.bytes.now }
 {
-    let gates = n.gates;
     let mut total = 0;
-    let mut g = 0;
-    while g < gates {
-        let position = position_at(map, g, total);
-        if !position.right {
+    for g in 0..map.gates {
+        let Some(next) = position_at(map, g, total) else {
             return false;
-        }
-        total = position.total;
-        g += 1;
+        };
+        total = next;
     }
-    total == n.children
+    total == map.children
 }
 
 // Test 6 at child j of gate g.
-fn child_ok(map: &[u8], gates: usize, g: usize, j: usize) -> bool
-    requires placed { Placed map.now × (gates ≡ gate_count map.now) }
-    requires g_lt_gates { (g < gates) × (j < fan_in map.now g) }
-    ensures { result ≡ child_test map.now g j }
+#[tactic(auto, using(folds::proofs::Tests::bools), unfolding(crate::specs::Check::child_test))]
+fn child_ok(map: Placed, g: usize, j: usize) -> bool
+    requires { (g < map.table.gates) × (j < fan_in map.table.bytes.now g) }
+    ensures { result ≡ child_test map.entry.table.bytes.now g j }
 {
-    let x = decode::child(map, gates, g, j);
-    if g <= x {
-        return false;
-    }
-    if j == 0 {
-        return true;
-    }
-    decode::child(map, gates, g, j - 1) < x
+    let x = map.child(g, j);
+    x < g && (j == 0 || map.child(g, j - 1) < x)
 }
 
 // Test 6 at gate g.
-fn children_ok(map: &[u8], gates: usize, g: usize) -> bool
-    requires placed { Placed map.now × (gates ≡ gate_count map.now) }
-    requires g_lt_gates { g < gates }
-    ensures { result ≡ children_test map.now g }
+fn children_ok(map: Placed, g: usize) -> bool
+    requires { g < map.table.gates }
+    ensures { result ≡ children_test map.entry.table.bytes.now g }
 {
-    let f = decode::fan_in(map, g);
-    let mut j = 0;
-    while j < f {
-        if !child_ok(map, gates, g, j) {
-            return false;
-        }
-        j += 1;
-    }
-    true
+    (0..map.table.fan_in(g)).all(|j| child_ok(map, g, j))
 }
 
 // Test 6.
-fn all_children_ok(map: &[u8], n: Contents) -> bool
-    requires contents_of { ContentsOf map.now n }
-    requires placed { Placed map.now }
-    ensures { result ≡ all_below (gate_count map.now) (children_test map.now) }
+fn all_children_ok(map: Placed) -> bool
+    ensures { result ≡ all_below (gate_count map.entry.table.bytes.now) (children_test map.entry.table.bytes.now) }
 {
-    let gates = n.gates;
-    let mut g = 0;
-    while g < gates {
-        if !children_ok(map, gates, g) {
-            return false;
-        }
-        g += 1;
-    }
-    true
-}
-
-// Is the gate x of code r above the one before?
-fn code_ascends(map: &[u8], start: usize, r: usize, x: usize) -> bool
-    requires { Shaped map.now × ((start ≡ codes_place map.now) × (r < code_count map.now)) }
-    ensures { result ≡ (eqb r 0 or ltb (code_gate map.now (r - 1)) x) }
-{
-    if r == 0 {
-        return true;
-    }
-    decode::code_gate(map, start, r - 1) < x
+    (0..map.table.gates).all(|g| children_ok(map, g))
 }
 
 // Test 7 at code r.
-#[tactic(auto, using(crate::proofs::CodeTest::code_past_end, crate::proofs::CodeTest::code_falls, crate::proofs::CodeTest::code_high, crate::proofs::CodeTest::code_by_zero))]
-fn code_ok(map: &[u8], n: Contents, start: usize, r: usize) -> bool
-    requires contents_of { ContentsOf map.now n }
-    requires shaped { Shaped map.now × ((start ≡ codes_place map.now) × (r < n.codes)) }
-    ensures { result ≡ code_test map.now r }
+#[tactic(auto, using(folds::proofs::Tests::bools), unfolding(crate::specs::Check::code_test))]
+fn code_ok(map: Table, r: usize) -> bool
+    requires { r < map.codes }
+    ensures { result ≡ code_test map.entry.bytes.now r }
 {
-    let x = decode::code_gate(map, start, r);
-    if n.gates <= x {
-        return false;
-    }
-    if !code_ascends(map, start, r, x) {
-        return false;
-    }
-    let at = start + 4 * r;
-    if 1 < map[at + 2] {
-        return false;
-    }
-    map[at + 3] == 0
+    let x = map.code_gate(r);
+    x < map.gates
+        && (r == 0 || map.code_gate(r - 1) < x)
+        && map.code_value(r) <= 1
+        && map.code_zero(r) == 0
 }
 
 // Test 7.
-fn codes_ok(map: &[u8], n: Contents, start: usize) -> bool
-    requires contents_of { ContentsOf map.now n }
-    requires shaped { Shaped map.now × (start ≡ codes_place map.now) }
-    ensures { result ≡ all_below (code_count map.now) (code_test map.now) }
+fn codes_ok(map: Table) -> bool
+    ensures { result ≡ all_below (code_count map.entry.bytes.now) (code_test map.entry.bytes.now) }
 {
-    let codes = n.codes;
-    let mut r = 0;
-    while r < codes {
-        if !code_ok(map, n, start, r) {
-            return false;
-        }
-        r += 1;
-    }
-    true
+    (0..map.codes).all(|r| code_ok(map, r))
 }
 
-// The first of the tests 2 and 3 that fails, or 0.
-#[tactic(auto, using(crate::proofs::Contents::no_gate, crate::proofs::Contents::many_gates, crate::proofs::Contents::wrong_offsets, crate::proofs::Contents::contents_pass))]
-fn contents_failed(map: &[u8], n: Contents) -> u8
-    requires in_bounds { 12 ≤ length map.now }
-    requires contents_of { ContentsOf map.now n }
-    ensures { result ≡ first_failed (contents_tests map.now) }
+// Tests 4 to 7.
+#[tactic(auto, using(crate::proofs::Laws::tests_by, crate::proofs::Laws::places_children), unfolding(crate::specs::Check::bodies_tests))]
+fn bodies(map: Table) -> Result<(), Refusal>
+    ensures { number_given result ≡ first_failed (bodies_tests map.entry.bytes.now) }
 {
-    if n.gates == 0 {
-        return 2;
+    if !kinds_ok(map) {
+        return Err(Refusal::Kinds);
     }
-    if MOST_GATES < n.gates {
-        return 2;
+    if !positions_ok(map) {
+        return Err(Refusal::Positions);
     }
-    if !offsets_ok(map, n) {
-        return 3;
+    if !all_children_ok(Placed { table: map }) {
+        return Err(Refusal::Children);
     }
-    0
+    if !codes_ok(map) {
+        return Err(Refusal::Codes);
+    }
+    Ok(())
 }
 
-// The first of the tests 4 to 7 that fails, or 0.
-fn bodies_failed(map: &[u8], n: Contents) -> u8
-    requires contents_of { ContentsOf map.now n }
-    requires shaped { Shaped map.now }
-    ensures { result ≡ first_failed (bodies_tests map.now) }
+// Tests 1 to 7: the map, or the first that fails.
+#[tactic(auto, using(crate::proofs::Facts::verdict_by))]
+pub fn accept(bytes: &[u8]) -> Result<Map<'_>, Refusal>
+    ensures { IsAccepted bytes.entry result }
 {
-    let start = decode::child_place(n.gates, n.children);
-    if !kinds_ok(map, n) {
-        return 4;
-    }
-    if !positions_ok(map, n) {
-        return 5;
-    }
-    if !all_children_ok(map, n) {
-        return 6;
-    }
-    if !codes_ok(map, n, start) {
-        return 7;
-    }
-    0
-}
-
-// The number of the first test that fails, or 0.
-pub fn failed(map: &[u8]) -> u8
-    ensures { result ≡ verdict map.now }
-{
-    if map.len() < 12 {
-        return 1;
-    }
-    let n = decode::read_contents(map);
-    let number = contents_failed(map, n);
-    if number != 0 {
-        return number;
-    }
-    bodies_failed(map, n)
+    let map = table(bytes)?;
+    bodies(map)?;
+    Ok(Map {
+        bytes,
+        gates: map.gates,
+        children: map.children,
+        codes: map.codes,
+    })
 }

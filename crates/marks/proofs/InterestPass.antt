@@ -1,23 +1,24 @@
 -- The pass for the interest set: the marks at each gate, from the last down to gate 0. Assumes nothing.
 use Prim.Native.Nat.{ℕ, zero, suc, ◌+◌, ◌-◌, ◌*◌, ◌<◌, ◌≤◌}
-use mathlib.Core.Path.{◌≡◌, refl, ap, ◌∙◌}
+use mathlib.Core.Path.{◌≡◌, refl, ◌∙◌}
 use mathlib.Core.Logic.{inl, inr}
-use mathlib.Core.Bool.{Bool, true, false, not, false≢true}
-use mathlib.Core.List.{List, map}
+use mathlib.Core.Bool.{Bool, true, false, not, cond, false≢true}
+use mathlib.Core.List.{List, [], ◌∷◌, map}
 use native.Mathlib.Omega.{arith}
 use lib.ListN.{length, get_or, set}
 use lib.Dec.{leb, ltb}
 use borrow.Author.Tests.{le-ltb}
 use Rattle.folds.specs.Folds.{◌and◌}
 use Rattle.folds.proofs.Tests.{which}
-use Rattle.circuit.specs.Tools.{byte, up_to}
+use Rattle.std.specs.Prelude.{count_by}
+use Rattle.std.proofs.lemmas.List.Sums.{sum_by-cons}
+use Rattle.circuit.specs.Tools.{byte, up_to, select}
 use Rattle.circuit.specs.Circuit.{Circuit, WellFormed}
 use Rattle.circuit.specs.Survey.{cone, in_front, interest, survey, interest_size}
-use Rattle.circuit.proofs.Lists.{map_at, in_up_to, select_same}
 use Rattle.circuit.proofs.Spread.{spread_start}
 use Rattle.circuit.proofs.Cone.{front_cone}
 use Rattle.marks.specs.Marks.{cone_marks, paint, mark_below, mark_itself, interest_turn, interest_count}
-use Rattle.marks.proofs.Tables.{same_tables, length_table}
+use Rattle.marks.proofs.Tables.{same_tables}
 use Rattle.marks.proofs.Pass.{From, begins, ends, mark_is, passes, turns}
 
 -- ---- a mark, by what it says: in the cone, in the front, interesting
@@ -155,8 +156,15 @@ module _ (c : Circuit) (s : List ℕ) where
 
   -- ---- the size
 
+  -- the marks that say so, counted along the gates
+  counted : (xs : List ℕ) → count_by (λ b. leb 4 b) (map late_mark xs) ≡ length (select (interest c s) xs)
+  counted [] = refl
+  counted (x ∷ xs) = sum_by-cons (λ b. cond (leb 4 b) 1 0) (late_mark x) (map late_mark xs)
+      ∙ rw (counted xs, mark_high (cone c s x) (in_front c s x) (interest c s x) (front_cone c s x)) (elim (which (interest c s x)) [
+        | inl q ↦ rw q (omega arith)
+        | inr q ↦ rw q (omega arith)
+      ])
+
   pub interest_count_lem : (w : List ℕ) → w ≡ survey c s → interest_count w ≡ interest_size c s
-  unfolding interest_count interest_size survey
-  interest_count_lem w e = rw (e, length_table late_mark c.gates)
-      (ap length (select_same (λ g. leb 4 (get_or (map late_mark (up_to c.gates)) g 0)) (interest c s) (up_to c.gates) (λ g m.
-      rw (map_at late_mark c.gates g 0 (in_up_to g c.gates m)) (mark_high (cone c s g) (in_front c s g) (interest c s g) (front_cone c s g)))))
+  unfolding interest_size survey
+  interest_count_lem w e = rw e (counted (up_to c.gates))

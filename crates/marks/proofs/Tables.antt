@@ -5,19 +5,19 @@ use mathlib.Core.Logic.{inl, inr}
 use mathlib.Core.Bool.{Bool, true, false, cond}
 use mathlib.Core.List.Memᴰ.{head as here}
 use mathlib.Core.List.Memᴰ.{tail as there}
-use mathlib.Core.List.{List, [], ◌∷◌, ◌++◌, map, Memᴰ as In}
+use mathlib.Core.List.{List, [], ◌∷◌, ◌++◌, map, map-append, Memᴰ as In}
 use native.Mathlib.Nat.{le_of_suc-le-suc, eq-or-lt_of_le}
 use native.Mathlib.Numerals.{add-one}
 use native.Mathlib.Omega.{arith}
 use lib.ListN.{length, get_or, set, length-map, length-set}
-use lib.Seq.{ext_get_or, get_or-set_same, get_or-set_other}
+use lib.Seq.{ext_get_or, set-get_or, get_or-set_same, get_or-set_other}
 use lib.Dec.{eqb, leb}
 use borrow.Author.Tests.{eqb-true, eqb-false, le-leb, lt-leb}
 use Rattle.folds.specs.Folds.{◌and◌, ◌or◌}
 use Rattle.folds.proofs.Tests.{which, and_past, and_first_false, or_first, or_past}
 use Rattle.circuit.specs.Tools.{byte, up_to, member, select}
-use Rattle.circuit.proofs.Lists.{map_append, map_at, map_same, in_up_to, length_up_to, select_append, select_same, place_more}
-use Rattle.marks.specs.Marks.{paint}
+use Rattle.circuit.proofs.Lists.{map_at, map_same, in_up_to, length_up_to, select_append, select_same, place_more}
+use Rattle.marks.specs.Marks.{paint, to_one}
 
 pub length_table : (f : ℕ → ℕ) (n : ℕ) → length (map f (up_to n)) ≡ n
 length_table f n = length-map (up_to n) f ∙ length_up_to n
@@ -31,9 +31,11 @@ same_tables f g n h = map_same f g (up_to n) (λ x m. h x (in_up_to x n m))
 
 -- ---- painting
 
-pub paint_none : (f : ℕ → ℕ) (w : List ℕ) → paint f [] w ≡ w
+-- a mark written anew is painted or stays
+pub paint_one : (b : Bool) (x : ℕ) (w : List ℕ) → set w x (cond b 1 (get_or w x 0)) ≡ paint to_one (cond b (x ∷ []) []) w
 unfolding paint
-paint_none f w = refl
+paint_one true x w = refl
+paint_one false x w = set-get_or w x 0
 
 paint_append : (f : ℕ → ℕ) (xs ys w : List ℕ) → paint f (xs ++ ys) w ≡ paint f ys (paint f xs w)
 unfolding paint
@@ -42,20 +44,15 @@ paint_append f (x ∷ xs) ys w = paint_append f xs ys (set w x (f (get_or w x 0)
 
 -- a turn of a loop over a gate's children, child j being `child j`: of all, and of those that p selects
 pub paint_next : (f child : ℕ → ℕ) (j : ℕ) (w : List ℕ) → paint f (map child (up_to (j + 1))) w ≡ paint f (child j ∷ []) (paint f (map child (up_to j)) w)
-paint_next f child j w = rw (add-one j, map_append child (up_to j) (j ∷ [])) (paint_append f (map child (up_to j)) (child j ∷ []) w)
+paint_next f child j w = rw (add-one j, map-append child (up_to j) (j ∷ [])) (paint_append f (map child (up_to j)) (child j ∷ []) w)
 
 pub paint_select : (f child : ℕ → ℕ) (p : ℕ → Bool) (j : ℕ) (w : List ℕ)
     → paint f (select p (map child (up_to (j + 1)))) w ≡ paint f (select p (child j ∷ [])) (paint f (select p (map child (up_to j))) w)
-paint_select f child p j w = rw (add-one j, map_append child (up_to j) (j ∷ []), select_append p (map child (up_to j)) (child j ∷ []))
+paint_select f child p j w = rw (add-one j, map-append child (up_to j) (j ∷ []), select_append p (map child (up_to j)) (child j ∷ []))
     (paint_append f (select p (map child (up_to j))) (select p (child j ∷ [])) w)
 
 pub paint_two : (f : ℕ → ℕ) (p : ℕ → Bool) (x y : ℕ) (w : List ℕ) → paint f (select p (x ∷ y ∷ [])) w ≡ paint f (select p (y ∷ [])) (paint f (select p (x ∷ [])) w)
 paint_two f p x y w = rw (select_append p (x ∷ []) (y ∷ [])) (paint_append f (select p (x ∷ [])) (select p (y ∷ [])) w)
-
-pub paint_length : (f : ℕ → ℕ) (xs w : List ℕ) → length (paint f xs w) ≡ length w
-unfolding paint
-paint_length f [] w = refl
-paint_length f (x ∷ xs) w = paint_length f xs (set w x (f (get_or w x 0))) ∙ simp length-set
 
 set_table : (f : ℕ → ℕ) (n g v : ℕ) → set (map f (up_to n)) g v ≡ map (λ x. cond (eqb x g) v (f x)) (up_to n)
 set_table f n g v = table_of (set (map f (up_to n)) g v) (λ x. cond (eqb x g) v (f x)) n (simp length-set (length_table f n)) (λ x l. elim (which (eqb x g)) [

@@ -1,6 +1,6 @@
 -- For inner functions: the marks of a survey, a byte per gate, while they are made. Assumes nothing.
-use Rattle.std.specs.Prelude.{ℕ, ◌+◌, ◌*◌, ◌≤◌, ◌≡◌, cond, not, List, [], ◌∷◌, map, length, get_or, set, eqb, leb, ltb}
-use Rattle.circuit.specs.Tools.{byte, up_to, select}
+use Rattle.std.specs.Prelude.{ℕ, ◌+◌, ◌*◌, ◌≤◌, ◌≡◌, cond, not, List, [], ◌∷◌, map, count_by, get_or, set, eqb, leb, ltb}
+use Rattle.circuit.specs.Tools.{byte, up_to}
 use Rattle.circuit.specs.Circuit.{Circuit, justified}
 use Rattle.circuit.specs.Survey.{reasons, cone, in_front, survey, front_size}
 
@@ -60,5 +60,5 @@ abbrev pub Completed : Circuit → List ℕ → List ℕ → Type 0
 Completed c before after = (s : List ℕ) → before ≡ cone_marks c s → after ≡ survey c s
 
 -- how many marks say that their gate is interesting
-unfoldable pub interest_count : List ℕ → ℕ
-interest_count w = length (select (λ g. leb 4 (get_or w g 0)) (up_to (length w)))
+abbrev pub interest_count : List ℕ → ℕ
+interest_count w = count_by (λ b. leb 4 b) w

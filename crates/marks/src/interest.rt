@@ -1,13 +1,12 @@
 // The interest set over the marks of cone and front, by one pass from the last gate to gate 0.
 ghost use Rattle.std.specs.Prelude.{◌≡◌, ◌<◌, ◌≤◌, length, leb};
-ghost use Rattle.circuit.specs.Tools.{byte};
 ghost use Rattle.map.specs.Map.{most_gates, kids_of, circuit};
-ghost use Rattle.map.specs.Inner.{Counted};
 ghost use Rattle.marks.specs.Marks.{paint, mark_below, mark_itself, interest_turn, ConeMarked, Completed, interest_count};
 
-use map::{Counts, decode};
+use map::Map;
 
 // The mark of a gate below an interesting one. One that is in the front waits for its own turn.
+#[tactic(auto, unfolding(crate::specs::Marks::mark_below))]
 fn mark_below(b: u8) -> u8
     ensures { result ≡ mark_below b }
 {
@@ -15,6 +14,7 @@ fn mark_below(b: u8) -> u8
 }
 
 // The mark of an interesting gate, at its turn.
+#[tactic(auto, unfolding(crate::specs::Marks::mark_itself))]
 fn mark_itself(b: u8) -> u8
     ensures { result ≡ mark_itself b }
 {
@@ -29,66 +29,49 @@ fn interesting(b: u8) -> bool
 }
 
 // The children of gate g are interesting.
-fn mark_children(map: &[u8], counts: Counts, g: usize, marks: &mut [u8])
-    requires counted { Counted map.now counts }
-    requires g_lt_gates { (g < counts.gates) × (counts.gates ≤ length marks.old) }
-    ensures { marks.new ≡ paint mark_below (kids_of map.now g) marks.old }
+#[tactic(auto, using(crate::proofs::Tables::paint_next), unfolding(crate::specs::Marks::paint, map::specs::Map::kids_of))]
+fn mark_children(map: Map, g: usize, marks: &mut [u8])
+    requires { (g < map.gates) × (map.gates ≤ length marks.old) }
+    ensures { marks.new ≡ paint mark_below (kids_of map.entry.bytes.now g) marks.old }
 {
-    let fan = decode::fan_in(map, g);
-    let first = decode::first_child(map, g);
-    let mut j = 0;
-    while j < fan {
-        let x = decode::kid(map, counts, g, first, j);
+    let gate = map.gate(g);
+    for j in 0..gate.fan {
+        let x = gate.kid(j);
         marks[x] = mark_below(marks[x]);
-        j += 1;
     }
 }
 
 // Gate g's turn: where it is in the front or marked as interesting, so are its children.
-fn mark_gate(map: &[u8], counts: Counts, g: usize, marks: &mut [u8])
-    requires counted { Counted map.now counts }
-    requires g_lt_gates { (g < counts.gates) × (counts.gates ≤ length marks.old) }
-    ensures { marks.new ≡ interest_turn (circuit map.now) g marks.old }
+#[tactic(auto, unfolding(crate::specs::Marks::interest_turn))]
+fn mark_gate(map: Map, g: usize, marks: &mut [u8])
+    requires { (g < map.gates) × (map.gates ≤ length marks.old) }
+    ensures { marks.new ≡ interest_turn (circuit map.entry.bytes.now) g marks.old }
 {
-    if !interesting(marks[g]) {
-        return;
+    if interesting(marks[g]) {
+        marks[g] = mark_itself(marks[g]);
+        mark_children(map, g, marks);
     }
-    marks[g] = mark_itself(marks[g]);
-    mark_children(map, counts, g, marks);
 }
 
 // Marks that are the cone and the front of a configuration become its survey.
-pub fn mark(map: &[u8], counts: Counts, marks: &mut [u8])
-    requires counted { Counted map.now counts }
-    requires gates_value { counts.gates ≡ length marks.old }
-    requires cone_marked { ConeMarked (circuit map.now) marks.old }
-    ensures { Completed (circuit map.now) marks.old marks.new }
+pub fn mark(map: Map, marks: &mut [u8])
+    requires room { map.gates ≡ length marks.old }
+    requires cone_marked { ConeMarked (circuit map.bytes.now) marks.old }
+    ensures { Completed (circuit map.entry.bytes.now) marks.old marks.new }
 {
-    let mut g = counts.gates;
-    while 0 < g {
-        g -= 1;
-        mark_gate(map, counts, g, marks);
+    for g in (0..map.gates).rev() {
+        mark_gate(map, g, marks);
     }
 }
 
-// 1 for an interesting gate, else 0.
-fn counted(b: u8) -> u16
-    ensures { (result ≡ byte (leb 4 b)) × (result ≤ 1) }
-{
-    if 4 <= b { 1 } else { 0 }
-}
-
-// The size of the interest set.
+// The size of the interest set. (By a sum: `filter` and `count` take a jump at each gate, and a tenth more of a survey.)
 pub fn size(marks: &[u8]) -> u16
     requires { length marks.now ≤ most_gates }
     ensures { result ≡ interest_count marks.now }
 {
-    let n = marks.len();
     let mut count = 0;
-    let mut g = 0;
-    while g < n {
-        count += counted(marks[g]);
-        g += 1;
+    for mark in marks {
+        count += u16::from(4 <= *mark);
     }
     count
 }

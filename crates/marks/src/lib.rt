@@ -1,4 +1,5 @@
 // The marks of a survey: a pass for the cone and the front, and one for the interest set.
+// What is written stays a slice of its own, and its length in each contract: a struct round a `&mut` would owe its fact at every write, and save one clause.
 #![tactic(auto)]
 
 pub mod cone;

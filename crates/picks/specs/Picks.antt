@@ -20,6 +20,4 @@ equal_to w n v = select (λ j. eqb (get_or w j 0) v) (up_to n)
 -- v is the smallest of the first n weights
 pub record Least (w : List ℕ) (n v : ℕ) : Type 0 where
   pub lowest : (k : ℕ) → k < n → v ≤ get_or w k 0
-  pub at : ℕ
-  pub below : at < n
-  pub is : get_or w at 0 ≡ v
+  pub stands : (j : ℕ) × (j < n) × (get_or w j 0 ≡ v)

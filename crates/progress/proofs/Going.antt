@@ -23,7 +23,7 @@ use Rattle.circuit.proofs.Trace.{run_found, run_spent, run_sticks, run_step}
 use Rattle.tape.specs.Tape.{entry_at, entries_from, entries, tape_length_test}
 use Rattle.tape.specs.Inner.{step_at}
 use Rattle.progress.specs.Advance.{adds, Going, Ends}
-use Rattle.tape.specs.declared.Step.TheVariants.{Next, End}
+use Rattle.std.specs.Prelude.{Some, None}
 use Rattle.tape.proofs.Reading.{step_has, step_over}
 use Rattle.marks.proofs.Marked.{front_some, front_none}
 
@@ -121,7 +121,7 @@ module _ (c : Circuit) (start tape : List ℕ) where
 
 -- a run goes by what is read
 module _ (c : Circuit) (start tape : List ℕ) (at moves flips : ℕ) (s : List ℕ) (g : Going c start tape at moves flips s) where
-  module _ (ok : WellFormed c) (h : 1 ≤ front_size c s) (e : Entry) (next : ℕ) (q : step_at tape at ≡ Next e next) where
+  module _ (ok : WellFormed c) (h : 1 ≤ front_size c s) (e : Entry) (next : ℕ) (q : step_at tape at ≡ Some (e, next)) where
     has : (leb (at + 4) (length tape) ≡ true) × ((e ≡ entry_at tape at) × (next ≡ at + 4))
     has = step_has tape at e next (sym q)
 
@@ -135,5 +135,5 @@ module _ (c : Circuit) (start tape : List ℕ) (at moves flips : ℕ) (s : List 
     pub stays : (move c s e).flips ≡ 0 → (move c s e).next ≡ s
     stays z = (let d = entry_does c ok s (front_some c s h) e g.keeps in d.undone (d.none.0 z))
 
-  pub run_stops : 1 ≤ front_size c s → step_at tape at ≡ End → Ends c start tape (record { ending = Spent (front_size c s); moves = moves; flips = flips }) s
+  pub run_stops : 1 ≤ front_size c s → step_at tape at ≡ None → Ends c start tape (record { ending = Spent (front_size c s); moves = moves; flips = flips }) s
   run_stops h q = run_spends c start tape at moves flips s g h (step_over tape at q)

@@ -39,6 +39,8 @@ module _ (m s entry work : List ℕ) where
   unfolding entry_tests
   move_passes h l k w = behind_start m s _ h ∙ past _ _ _ (eq-eqb _ _ l) ∙ past _ _ _ k ∙ past _ _ _ (le-leb _ _ w) ∙ no_test
 
+pub ruleset move_first = (move_start_fails, not_an_entry, wrong_entry_kind, short_move_work, move_passes)
+
 -- Run's
 module _ (m s tape work ans : List ℕ) where
   abbrev run_number : ℕ
@@ -68,3 +70,5 @@ module _ (m s tape work ans : List ℕ) where
       → run_number ≡ 0
   unfolding run_tests tape_tests
   run_passes h l k w a = behind_start m s _ h ∙ past _ _ _ l ∙ past _ _ _ k ∙ past _ _ _ (and_both _ _ (le-leb _ _ w) (le-leb _ _ a)) ∙ no_test
+
+pub ruleset run_first = (run_start_fails, wrong_length, wrong_kind, short_work, short_answer, run_passes)

@@ -1,5 +1,7 @@
 -- Document 01's Move, on bytes, with request F-1. What it means is proved in `demands`. Assumes nothing.
-use Rattle.std.specs.Prelude.{ℕ, ◌≤◌, ◌≡◌, ◌↔◌, Bool, true, false, cond, not, List, [], ◌∷◌, ◌++◌, length, take, drop, eqb, leb}
+use Rattle.std.specs.Prelude.{ℕ, ◌≤◌, ◌≡◌, ◌↔◌, Bool, true, false, cond, not, List, [], ◌∷◌, ◌++◌, length, take, drop, eqb, leb, Result, Ok, Err}
+use Rattle.circuit.specs.declared.Refusal.{Refusal}
+use Rattle.circuit.specs.Refusal.{number_of}
 use Rattle.circuit.specs.Tools.{is_empty}
 use Rattle.circuit.specs.Survey.{front, survey}
 use Rattle.circuit.specs.Evaluate.{KeepsCodes, differ}
@@ -10,8 +12,7 @@ use Rattle.map.specs.Map.{gate_count, circuit}
 use Rattle.map.specs.Check.{first_failed, map_tests, Test, MapNumber}
 use Rattle.state.specs.State.{over, HasRoom}
 use Rattle.survey.specs.Survey.{start_tests, IsStart, StartNumber}
-use Rattle.search.specs.declared.Moved.{Moved}
-use Rattle.search.specs.declared.Moved.TheVariants.{Done, Refused}
+use Rattle.steps.specs.declared.MoveReport.{MoveReport}
 use Rattle.tape.specs.Tape.{entry_at, EntryRead, entry_kinds_test, EntryKindAllowed}
 
 -- ---- the tests
@@ -41,9 +42,9 @@ pub record MoveEffect : Type 0 where
   pub work : List ℕ
 
 -- document 01's number and values of each case of the answer that is returned, beside the memories
-unfoldable pub move_answer : Moved → List ℕ → List ℕ → MoveEffect
-move_answer (Done t) s w = record { accepted = true; number = 0; gate = t.gate; turned = t.turned; configuration = s; work = w }
-move_answer (Refused n) s w = record { accepted = false; number = n; gate = 0; turned = 0; configuration = s; work = w }
+unfoldable pub move_answer : Result MoveReport Refusal → List ℕ → List ℕ → MoveEffect
+move_answer (Ok t) s w = record { accepted = true; number = 0; gate = t.gate; turned = t.turned; configuration = s; work = w }
+move_answer (Err r) s w = record { accepted = false; number = number_of r; gate = 0; turned = 0; configuration = s; work = w }
 
 -- what a call with this number gives and leaves: "Move does one entry and returns the drawn gate and how many values it turned (1 to 8). The lent
 -- configuration is then the new one, and the first bytes of the work memory, one per gate, are its survey."; F-1: stuck, "with that entry undone .. and the work memory filled as

@@ -4,6 +4,7 @@ use Rattle.folds.specs.Folds.{◌and◌}
 use Rattle.circuit.specs.declared.Ending.{Ending}
 use Rattle.circuit.specs.declared.Ending.TheVariants.{Found, Spent, Stuck, Refused}
 use Rattle.circuit.specs.declared.Outcome.{Outcome}
+use Rattle.circuit.specs.declared.Refusal.{Refusal}
 use Rattle.circuit.specs.Circuit.{Circuit}
 use Rattle.circuit.specs.Survey.{survey}
 use Rattle.circuit.specs.Run.{EndingValues, told, RunResult, run, answer}
@@ -64,7 +65,7 @@ abbrev pub answer_memory : Ending → List ℕ → List ℕ → List ℕ
 answer_memory Found x ans = over x ans
 answer_memory (Spent f) x ans = ans
 answer_memory Stuck x ans = ans
-answer_memory (Refused n) x ans = ans
+answer_memory (Refused r) x ans = ans
 
 -- "After either ending the configuration is the last one and the first bytes of the work memory, one per gate, are its survey." F-1: where it is Stuck, "the work memory
 -- filled as after Spent"
@@ -76,15 +77,30 @@ abbrev pub run_on_tape : List ℕ → List ℕ → List ℕ → List ℕ → Lis
 run_on_tape m s tape work ans = run_ended (circuit m) (run (circuit m) s (entries tape)) work ans
 
 -- "the other numbers of its answer, as Run's moves and flips, are then 0"
-abbrev pub refused_outcome : ℕ → Outcome
-refused_outcome n = record { ending = Refused n; moves = 0; flips = 0 }
+abbrev pub refused_outcome : Refusal → Outcome
+refused_outcome r = record { ending = Refused r; moves = 0; flips = 0 }
+
+-- the effect of a call that is refused with number n
+abbrev pub run_refused : ℕ → List ℕ → List ℕ → List ℕ → RunEffect
+run_refused n s w a = record {
+  accepted = false;
+  number = n;
+  found = false;
+  stuck = false;
+  front = 0;
+  moves = 0;
+  flips = 0;
+  configuration = s;
+  work = w;
+  answer = a;
+}
 
 -- what a call with this number gives and leaves; refused, it "leaves all lent memory untouched"
 unfoldable pub run_by : ℕ → List ℕ → List ℕ → List ℕ → List ℕ → List ℕ → RunEffect
 run_by n m s tape work ans =
     cond (eqb n 0)
     (run_on_tape m s tape work ans)
-    (run_answer (refused_outcome n) s work ans)
+    (run_refused n s work ans)
 
 unfoldable pub run_effect : List ℕ → List ℕ → List ℕ → List ℕ → List ℕ → RunEffect
 run_effect m s tape work ans = run_by (first_failed (map_tests m ++ run_tests m s tape work ans)) m s tape work ans

@@ -1,23 +1,25 @@
--- What its children give a gate, by how many of them are at 1. Assumes nothing.
-use Prim.Native.Nat.{ℕ, ◌+◌, ◌≤◌, ◌<◌}
-use mathlib.Core.Path.{◌≡◌, refl, sym, ap, ◌∙◌}
-use mathlib.Core.Bool.{Bool}
-use native.Mathlib.Nat.{zero-add}
-use mathlib.Core.List.{List, [], ◌∷◌, map}
-use lib.ListN.{length, length-map}
-use Rattle.circuit.specs.Tools.{byte, up_to, select}
+-- What its children give a gate, by how many of them are at 1, and whether it is justified. Assumes nothing.
+use Rattle.std.proofs.Common.{ℕ, ◌+◌, ◌≤◌, ◌<◌, ◌≡◌, Bool, true, false, List, [], ◌∷◌, map, length, refl, sym, ap, ◌∙◌, zero-add, arith}
+use Rattle.std.proofs.Math.Bool.{beq}
+use Rattle.std.proofs.lemmas.List.{length-map}
+use mir.Val.{bool_byte}
+use Rattle.circuit.specs.Tools.{byte, same, up_to, select}
+use Rattle.circuit.specs.declared.Kind.{Kind}
 use Rattle.circuit.specs.Gate.{kind_of}
 use Rattle.circuit.specs.Circuit.{on, given}
+use Rattle.circuit.proofs.Values.{bit_is}
 use Rattle.circuit.proofs.Lists.{length_up_to, place_more}
 use Rattle.kinds.specs.Kinds.{only_fan_in, count_on, GivesBy}
 use Rattle.kinds.proofs.Fans.{only_fan}
 use Rattle.kinds.proofs.Count.{count_is}
-use Rattle.map.specs.Map.{gate_count, kind_byte, fan_in, child_at, kids_of, circuit}
+use Rattle.map.specs.declared.accepted.Map.{Map}
+use Rattle.map.specs.declared.accepted.Gate.{Gate}
+use Rattle.map.specs.Map.{kind_byte, fan_in, child_at, kids_of, circuit}
 use Rattle.map.specs.Check.{kind_test}
-use Rattle.map.specs.Inner.{IsMap}
+use Rattle.map.specs.Inner.{IsMap, GateOf, KidOf}
 
 -- what a gate's children give, from their number and how many are at 1
-pub given_count : (m s : List ℕ) (g : ℕ) (v : Bool) → GivesBy (kind_byte m g) (fan_in m g) (length (select (λ j. on s (child_at m g j)) (up_to (fan_in m g)))) v
+given_count : (m s : List ℕ) (g : ℕ) (v : Bool) → GivesBy (kind_of (kind_byte m g)) (fan_in m g) (length (select (λ j. on s (child_at m g j)) (up_to (fan_in m g)))) v
     → v ≡ given (circuit m) s g
 unfolding kids_of
 given_count m s g v h = h (map (on s) (kids_of m g)) (length-map (kids_of m g) (on s) ∙ length-map (up_to (fan_in m g)) (λ j. child_at m g j) ∙ length_up_to (fan_in m g))
@@ -28,15 +30,44 @@ given_count m s g v h = h (map (on s) (kids_of m g)) (length-map (kids_of m g) (
     map_map (x ∷ xs) = ap (λ (l : List Bool). on s (child_at m g x) ∷ l) (map_map xs)
 
 -- the fan-in of a gate whose kind allows one alone
-pub only_fan_in_lem : (m : List ℕ) (g k n : ℕ) → IsMap m → g < gate_count m → k ≡ kind_byte m g → n ≡ only_fan_in (kind_of k) → 1 ≤ n → fan_in m g ≡ n
+pub fan_known : (m : List ℕ) (g f p n : ℕ) (k : Kind) → GateOf m g k f p → IsMap m → n ≡ only_fan_in k → 1 ≤ n → f ≡ n
 unfolding kind_test
-only_fan_in_lem m g k n a h e o l = only_fan (kind_byte m g) (fan_in m g) n (a.kinds g h) (sym (o ∙ ap (λ (b : ℕ). only_fan_in (kind_of b)) e)) l
+fan_known m g f p n k d a o l = d.fan_is ∙ only_fan (kind_byte m g) (fan_in m g) n (a.kinds g d.known) (sym (rw d.kind_is at o)) l
 
--- what the one child of a gate gives, and what its two give
-module _ (m s : List ℕ) (g : ℕ) (v : Bool) where
-  pub given_one : (a : ℕ) → fan_in m g ≡ 1 → a ≡ byte (on s (child_at m g 0)) → GivesBy (kind_byte m g) 1 a v → v ≡ given (circuit m) s g
-  given_one a f e h = given_count m s g v (rw (f, place_more (λ j. on s (child_at m g j)) 0, zero-add _, ← e) h)
+pub kid_known : (m : List ℕ) (g f p n r j : ℕ) (k : Kind) → GateOf m g k f p → IsMap m → n ≡ only_fan_in k → n ≡ r → j < r → j < f
+kid_known m g f p n r j k d a o q l = omega (arith, fan_known m g f p n k d a o (omega arith))
 
-  pub given_two : (a b : ℕ) → fan_in m g ≡ 2 → a ≡ byte (on s (child_at m g 0)) → b ≡ byte (on s (child_at m g 1)) → GivesBy (kind_byte m g) 2 (a + b) v
-      → v ≡ given (circuit m) s g
-  given_two a b f e d h = given_count m s g v (rw (f, place_more (λ j. on s (child_at m g j)) 1, place_more (λ j. on s (child_at m g j)) 0, zero-add _, ← e, ← d) h)
+-- a gate as it was read, by how many of its children are at 1
+module _ (x : Gate) (map : Map) (g : ℕ) (e : (x.map ≡ map) × (x.number ≡ g)) (s : List ℕ) (v : Bool) where
+  read : GateOf map.bytes.now g x.kind x.fan x.first
+  read = rw (← e.0, ← e.1) x.read
+
+  abbrev on_at : ℕ → Bool
+  on_at j = on s (child_at map.bytes.now g j)
+
+  pub given_any : (n : ℕ) → n ≡ length (select on_at (up_to (fan_in map.bytes.now g))) → GivesBy x.kind x.fan n v → v ≡ given (circuit map.bytes.now) s g
+  given_any n q h = given_count map.bytes.now s g v (rw (← q, ← read.kind_is, ← read.fan_is) h)
+
+  bit : (j k a : ℕ) (b : Bool) → KidOf x.map.bytes.now x.number j k → b ≡ on s k → a ≡ bool_byte b → a ≡ byte (on_at j)
+  bit j k a b d o q = q ∙ bit_is b ∙ ap byte (rw (d.is, e.0, e.1) at o)
+
+  fan : (n r : ℕ) → n ≡ only_fan_in x.kind → n ≡ r → 1 ≤ r → fan_in map.bytes.now g ≡ r
+  fan n r o q l = sym read.fan_is ∙ fan_known x.map.bytes.now x.number x.fan x.first n x.kind x.read x.map.is o (omega arith) ∙ q
+
+  pub given_one : (n k a : ℕ) (b : Bool) → n ≡ only_fan_in x.kind → n ≡ 1 → KidOf x.map.bytes.now x.number 0 k → b ≡ on s k → a ≡ bool_byte b → GivesBy x.kind 1 a v
+      → v ≡ given (circuit map.bytes.now) s g
+  given_one n k a b o q d w z h =
+      let f = fan n 1 o q (omega arith) in
+      given_any a (rw (f, place_more on_at 0, zero-add _) (bit 0 k a b d w z)) (rw (read.fan_is, f) h)
+
+  pub given_two : (n k a l c : ℕ) (b d : Bool) → n ≡ only_fan_in x.kind → n ≡ 2 → KidOf x.map.bytes.now x.number 0 k → b ≡ on s k → a ≡ bool_byte b
+      → KidOf x.map.bytes.now x.number 1 l → d ≡ on s l → c ≡ bool_byte d → GivesBy x.kind 2 (a + c) v → v ≡ given (circuit map.bytes.now) s g
+  given_two n k a l c b d o q k0 w z k1 y t h =
+      let f = fan n 2 o q (omega arith) in
+      given_any (a + c) (rw (f, place_more on_at 1, place_more on_at 0, zero-add _, ← bit 0 k a b k0 w z, ← bit 1 l c d k1 y t)) (rw (read.fan_is, f) h)
+
+pub beq_same : (a b : Bool) → beq a b ≡ same a b
+beq_same true true = refl
+beq_same true false = refl
+beq_same false true = refl
+beq_same false false = refl

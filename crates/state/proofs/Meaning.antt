@@ -15,7 +15,7 @@ use Rattle.circuit.proofs.Evaluate.{evaluate_is, mark_is}
 use Rattle.map.specs.Map.{gate_count, circuit}
 use Rattle.map.specs.Check.{first_failed, map_tests, verdict}
 use Rattle.map.proofs.Laws.{none_failed, past, no_test, passed_before}
-use Rattle.map.proofs.Accepted.{facts, well_formed}
+use Rattle.map.proofs.Facts.{facts, well_formed}
 use Rattle.map.proofs.Answers.{behind_accepted}
 use Rattle.map.proofs.Described.{tested, map_number}
 use Rattle.state.specs.State.{Bits, bits_test, row_tests, configuration_tests, over, evaluate_by, evaluate_effect, EvaluateDoes, EvaluateAccepts, EvaluateNumber, EvaluateRefuses, mark_by, mark_effect, MarkDoes, MarkAccepts, ConfigurationNumber, MarkNumber, MarkRefuses}

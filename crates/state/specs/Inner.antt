@@ -1,15 +1,22 @@
 -- For inner functions: Evaluate and Mark behind the map's tests. Assumes nothing.
-use Rattle.std.specs.Prelude.{ℕ, ◌≡◌, Bool, List, length, get_or, eqb}
+use Rattle.std.specs.Prelude.{ℕ, ◌≡◌, Bool, List, length, get_or, eqb, Result, IfOk}
+use Rattle.std.specs.Borrow.{Bor}
+use Rattle.circuit.specs.declared.Refusal.{Refusal}
+use Rattle.state.specs.declared.gates.Values.{Values}
 use Rattle.folds.specs.Folds.{all_below}
-use Rattle.map.specs.Map.{code_count, code_gate, code_value}
-use Rattle.map.specs.declared.Counts.{Counts}
+use Rattle.map.specs.Map.{code_count, code_gate, code_value, input_count}
+use Rattle.map.specs.declared.accepted.Map.{Map}
 use Rattle.map.specs.Check.{first_failed}
 use Rattle.state.specs.State.{Bits, row_tests, configuration_tests, EvaluateEffect, evaluate_by, MarkEffect, mark_by}
 
--- a row that tests 9 and 10 let through, for a map with these counts
-pub record RowTested (n : Counts) (row : List ℕ) : Type 0 where
-  pub long : length row ≡ n.inputs
+-- a row of the map that tests 9 and 10 let through
+pub record RowTested (m row : List ℕ) : Type 0 where
+  pub long : length row ≡ input_count m
   pub bits : Bits row
+
+-- what tests 9 and 10 of a configuration give: where they pass, these bytes as one of the map
+abbrev pub IsConfigurationOf : Map → Bor (List ℕ) → Result Values Refusal → Type 0
+IsConfigurationOf m b r = IfOk r (λ s. (s.map ≡ m) × (s.bytes ≡ b))
 
 -- Evaluate and Mark behind the map's tests
 unfoldable pub evaluate_on_map : List ℕ → List ℕ → List ℕ → EvaluateEffect

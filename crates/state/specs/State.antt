@@ -1,16 +1,12 @@
 -- Document 01's Evaluate and Mark, on bytes. Assumes nothing.
-use Rattle.std.specs.Prelude.{ℕ, ◌≤◌, ◌≡◌, ◌↔◌, Bool, true, false, cond, List, [], ◌∷◌, ◌++◌, length, get_or, take, drop, eqb, leb}
+use Rattle.std.specs.Prelude.{ℕ, ◌≤◌, ◌≡◌, ◌↔◌, Bool, true, false, cond, List, [], ◌∷◌, ◌++◌, length, get_or, take, drop, eqb, leb, Result, Ok, Err}
 use Rattle.folds.specs.Folds.{all_below}
 use Rattle.circuit.specs.Circuit.{Configuration}
 use Rattle.circuit.specs.Evaluate.{Row, evaluate, mark, Evaluated, Satisfying}
 use Rattle.map.specs.Map.{gate_count, circuit, input_count}
 use Rattle.map.specs.Check.{first_failed, map_tests, verdict, Test, MapNumber}
-use Rattle.state.specs.declared.Written.{Written}
-use Rattle.state.specs.declared.Written.TheVariants.{Done}
-use Rattle.state.specs.declared.Written.TheVariants as written-variants
-use Rattle.state.specs.declared.Marked.{Marked}
-use Rattle.state.specs.declared.Marked.TheVariants.{Yes, No}
-use Rattle.state.specs.declared.Marked.TheVariants as marked-variants
+use Rattle.circuit.specs.declared.Refusal.{Refusal}
+use Rattle.circuit.specs.Refusal.{number_of}
 
 -- ---- the tests
 
@@ -47,9 +43,9 @@ pub record EvaluateEffect : Type 0 where
   pub out : List ℕ
 
 -- document 01's number of each case of the answer that is returned, beside the memory
-unfoldable pub evaluate_answer : Written → List ℕ → EvaluateEffect
-evaluate_answer Done w = record { accepted = true; number = 0; out = w }
-evaluate_answer (written-variants.Refused n) w = record { accepted = false; number = n; out = w }
+unfoldable pub evaluate_answer : Result (Unit {0}) Refusal → List ℕ → EvaluateEffect
+evaluate_answer (Ok x) w = record { accepted = true; number = 0; out = w }
+evaluate_answer (Err r) w = record { accepted = false; number = number_of r; out = w }
 
 -- what a call with this number leaves: "Evaluate takes a row and writes the value of every gate."; refused, it "leaves all lent memory untouched"
 unfoldable pub evaluate_by : ℕ → List ℕ → List ℕ → List ℕ → EvaluateEffect
@@ -70,10 +66,9 @@ pub record MarkEffect : Type 0 where
   pub yes : Bool
 
 -- document 01's number and value of each case of the answer that is returned
-unfoldable pub mark_answer : Marked → MarkEffect
-mark_answer Yes = record { accepted = true; number = 0; yes = true }
-mark_answer No = record { accepted = true; number = 0; yes = false }
-mark_answer (marked-variants.Refused n) = record { accepted = false; number = n; yes = false }
+unfoldable pub mark_answer : Result Bool Refusal → MarkEffect
+mark_answer (Ok v) = record { accepted = true; number = 0; yes = v }
+mark_answer (Err r) = record { accepted = false; number = number_of r; yes = false }
 
 unfoldable pub mark_by : ℕ → List ℕ → List ℕ → MarkEffect
 mark_by n m s =

@@ -1,77 +1,66 @@
-// The value that its children give a gate.
-ghost use Rattle.std.specs.Prelude.{◌≡◌, ◌<◌, ◌≤◌, length, eqb};
-ghost use Rattle.circuit.specs.Tools.{byte, up_to, select};
+// The values of a map's gates, and what their children give them.
+ghost use Rattle.std.specs.Prelude.{◌≡◌, ◌<◌, ◌≤◌, length};
+ghost use Rattle.circuit.specs.Tools.{up_to, select};
 ghost use Rattle.circuit.specs.Circuit.{on, given, justified};
-ghost use Rattle.map.specs.Map.{fan_in, first_child, child_at, circuit};
-ghost use Rattle.map.specs.Inner.{Counted};
+ghost use Rattle.map.specs.Map.{fan_in, child_at, circuit};
 
-use map::{Counts, decode};
+use circuit::Kind;
+use map::Map;
 
-// 1 for the byte 1, else 0.
-fn one_bit(b: u8) -> usize
-    ensures { (result ≡ byte (eqb b 1)) × (result ≤ 1) }
-{
-    if b == 1 { 1 } else { 0 }
+// A byte for each gate of a map: a configuration, or one that is being written.
+#[derive(Clone, Copy)]
+pub struct Values<'a> {
+    pub map: Map<'a>,
+    pub bytes: &'a [u8],
+    pub ghost sized: { map.gates ≤ length bytes.now },
 }
 
-// 1 if child j of gate g is at 1, else 0.
-fn kid_bit(map: &[u8], counts: Counts, g: usize, first: usize, j: usize, s: &[u8]) -> usize
-    requires counted { Counted map.now counts }
-    requires g_lt_gates { (g < counts.gates) × ((first ≡ first_child map.now g) × (j < fan_in map.now g)) }
-    requires gates_in_bounds { counts.gates ≤ length s.now }
-    ensures { (result ≡ byte (on s.now (child_at map.now g j))) × (result ≤ 1) }
-{
-    let x = decode::kid(map, counts, g, first, j);
-    one_bit(s[x])
-}
+impl Values<'_> {
+    // Is gate g at 1?
+    pub fn is_on(self, g: usize) -> bool
+        requires { g < self.map.gates }
+        ensures { result ≡ on self.entry.bytes.now g }
+    {
+        self.bytes[g] == 1
+    }
 
-// How many children of gate g are at 1.
-fn ones(map: &[u8], counts: Counts, g: usize, s: &[u8]) -> usize
-    requires counted { Counted map.now counts }
-    requires g_lt_gates { (g < counts.gates) × (counts.gates ≤ length s.now) }
-    ensures { result ≡ length (select (λ j. on s.now (child_at map.now g j)) (up_to (fan_in map.now g))) }
-{
-    let fan = decode::fan_in(map, g);
-    let first = decode::first_child(map, g);
-    let mut count = 0;
-    let mut j = 0;
-    while j < fan {
-        count += kid_bit(map, counts, g, first, j, s);
-        j += 1;
+    // How many children of gate g are at 1.
+    fn ones(self, g: usize) -> usize
+        requires { g < self.map.gates }
+        ensures { (result ≡ length (select (λ j. on self.entry.bytes.now (child_at self.entry.map.bytes.now g j)) (up_to (fan_in self.entry.map.bytes.now g))))
+            × (result ≤ fan_in self.entry.map.bytes.now g) }
+    {
+        let gate = self.map.gate(g);
+        let mut count = 0;
+        for j in 0..gate.fan {
+            count += usize::from(self.is_on(gate.kid(j)));
+        }
+        count
     }
-    count
-}
 
-// Do its children give gate g the value 1? Those of a kind with one fan-in alone are read without a loop, whose end would often be foretold wrongly.
-pub fn given(map: &[u8], counts: Counts, g: usize, s: &[u8]) -> bool
-    requires counted { Counted map.now counts }
-    requires g_lt_gates { (g < counts.gates) × (counts.gates ≤ length s.now) }
-    ensures { result ≡ given (circuit map.now) s.now g }
-{
-    let k = decode::kind(map, g);
-    let first = decode::first_child(map, g);
-    let only = kinds::only_fan_in(k);
-    if only == 1 {
-        return kinds::gives(k, 1, kid_bit(map, counts, g, first, 0, s));
+    // Do its children give gate g the value 1? Those of a kind with one fan-in alone are read without a loop, whose end would often be foretold wrongly.
+    pub fn given(self, g: usize) -> bool
+        requires { g < self.map.gates }
+        ensures { result ≡ given (circuit self.entry.map.bytes.now) self.entry.bytes.now g }
+    {
+        let gate = self.map.gate(g);
+        match kinds::only_fan_in(gate.kind) {
+            1 => kinds::gives(gate.kind, 1, usize::from(self.is_on(gate.kid(0)))),
+            2 => {
+                let ones = usize::from(self.is_on(gate.kid(0)))
+                    + usize::from(self.is_on(gate.kid(1)));
+                kinds::gives(gate.kind, 2, ones)
+            }
+            _ => kinds::gives(gate.kind, gate.fan, self.ones(g)),
+        }
     }
-    if only == 2 {
-        let a = kid_bit(map, counts, g, first, 0, s);
-        let b = kid_bit(map, counts, g, first, 1, s);
-        return kinds::gives(k, 2, a + b);
-    }
-    let fan = decode::fan_in(map, g);
-    kinds::gives(k, fan, ones(map, counts, g, s))
-}
 
-// Is gate g an input, or do its children give its value?
-pub fn justified(map: &[u8], counts: Counts, g: usize, s: &[u8]) -> bool
-    requires counted { Counted map.now counts }
-    requires g_lt_gates { (g < counts.gates) × (counts.gates ≤ length s.now) }
-    ensures { result ≡ justified (circuit map.now) s.now g }
-{
-    if decode::kind(map, g) == 0 {
-        return true;
+    // Is gate g an input, or do its children give its value?
+    #[tactic(auto, using(folds::proofs::Tests::bools, crate::proofs::Given::beq_same), unfolding(circuit::specs::Circuit::justified))]
+    pub fn justified(self, g: usize) -> bool
+        requires { g < self.map.gates }
+        ensures { result ≡ justified (circuit self.entry.map.bytes.now) self.entry.bytes.now g }
+    {
+        self.map.kind(g) == Kind::Input || self.given(g) == self.is_on(g)
     }
-    let is_on = s[g] == 1;
-    given(map, counts, g, s) == is_on
 }

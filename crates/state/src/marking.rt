@@ -1,76 +1,44 @@
 // Mark on an accepted map.
-ghost use Rattle.std.specs.Prelude.{◌≡◌, ◌<◌, ◌≤◌, length, get_or, eqb};
+ghost use Rattle.std.specs.Prelude.{◌≡◌, ◌<◌, get_or, eqb};
 ghost use Rattle.folds.specs.Folds.{all_below};
 ghost use Rattle.circuit.specs.Circuit.{justified};
-ghost use Rattle.map.specs.Map.{gate_count, codes_place, code_gate, code_value, circuit};
-ghost use Rattle.map.specs.Inner.{Counted};
+ghost use Rattle.map.specs.Map.{gate_count, code_gate, code_value, circuit};
 ghost use Rattle.state.specs.State.{mark_answer};
 ghost use Rattle.state.specs.Inner.{mark_on_map, shown_by_record};
 
-use super::{Marked, gates, values};
-use map::{Counts, decode};
+use super::{Values, values};
+use circuit::Refusal;
+use map::Map;
 
 // Is every gate an input, or do its children give its value?
-fn gates_right(map: &[u8], counts: Counts, s: &[u8]) -> bool
-    requires counted { Counted map.now counts }
-    requires gates_in_bounds { counts.gates ≤ length s.now }
-    ensures { result ≡ all_below (gate_count map.now) (justified (circuit map.now) s.now) }
+fn gates_right(s: Values) -> bool
+    ensures { result
+        ≡ all_below (gate_count s.entry.map.bytes.now) (justified (circuit s.entry.map.bytes.now) s.entry.bytes.now) }
 {
-    let gates = counts.gates;
-    let mut g = 0;
-    while g < gates {
-        if !gates::justified(map, counts, g, s) {
-            return false;
-        }
-        g += 1;
-    }
-    true
+    (0..s.map.gates).all(|g| s.justified(g))
 }
 
 // Does the gate of code r have its value?
-fn code_shown(map: &[u8], counts: Counts, start: usize, r: usize, s: &[u8]) -> bool
-    requires counted { Counted map.now counts }
-    requires start_value { (start ≡ codes_place map.now) × ((r < counts.codes) × (counts.gates ≤ length s.now)) }
-    ensures { result ≡ eqb (get_or s.now (code_gate map.now r) 0) (code_value map.now r) }
+fn code_shown(s: Values, r: usize) -> bool
+    requires { r < s.map.codes }
+    ensures { result
+        ≡ eqb (get_or s.entry.bytes.now (code_gate s.entry.map.bytes.now r) 0) (code_value s.entry.map.bytes.now r) }
 {
-    let x = decode::code_gate(map, start, r);
-    s[x] == map[start + 4 * r + 2]
+    s.bytes[s.map.code_gate(r)] == s.map.code_value(r)
 }
 
 // Does every coded gate have its code?
-pub fn codes_shown(map: &[u8], counts: Counts, s: &[u8]) -> bool
-    requires counted { Counted map.now counts }
-    requires gates_in_bounds { counts.gates ≤ length s.now }
-    ensures { result ≡ shown_by_record map.now s.now }
+pub fn codes_shown(s: Values) -> bool
+    ensures { result ≡ shown_by_record s.entry.map.bytes.now s.entry.bytes.now }
 {
-    let start = decode::codes_start(map, counts);
-    let codes = counts.codes;
-    let mut r = 0;
-    while r < codes {
-        if !code_shown(map, counts, start, r, s) {
-            return false;
-        }
-        r += 1;
-    }
-    true
+    (0..s.map.codes).all(|r| code_shown(s, r))
 }
 
 // Tests 9 and 10, and the answer.
-pub fn mark_accepted(map: &[u8], counts: Counts, s: &[u8]) -> Marked
-    requires { Counted map.now counts }
-    ensures { mark_answer result ≡ mark_on_map map.now s.now }
+#[tactic(auto, using(crate::proofs::Answers::mark_refused), unfolding(crate::specs::Inner::mark_on_map))]
+pub fn mark_accepted(map: Map, configuration: &[u8]) -> Result<bool, Refusal>
+    ensures { mark_answer result ≡ mark_on_map map.entry.bytes.now configuration.now }
 {
-    if s.len() != counts.gates {
-        return Marked::Refused(9);
-    }
-    if !values::bits_ok(s) {
-        return Marked::Refused(10);
-    }
-    if !gates_right(map, counts, s) {
-        return Marked::No;
-    }
-    if !codes_shown(map, counts, s) {
-        return Marked::No;
-    }
-    Marked::Yes
+    let s = values::configuration(map, configuration)?;
+    Ok(gates_right(s) && codes_shown(s))
 }

@@ -1,90 +1,90 @@
-// Evaluate on an accepted map.
-ghost use Rattle.std.specs.Prelude.{◌≡◌, ◌⊎◌, cond, ◌<◌, ◌≤◌, length};
+// Evaluate on an accepted map, and the test of a configuration.
+ghost use Rattle.std.specs.Prelude.{◌≡◌, cond, ◌<◌, ◌≤◌, length};
+ghost use Rattle.circuit.specs.Refusal.{number_given};
 ghost use Rattle.circuit.specs.Tools.{byte};
 ghost use Rattle.circuit.specs.Gate.{kind_of, is_input};
 ghost use Rattle.circuit.specs.Circuit.{on, given};
 ghost use Rattle.circuit.specs.Evaluate.{inputs_before, evaluate};
 ghost use Rattle.map.specs.Map.{kind_byte, circuit};
-ghost use Rattle.map.specs.Inner.{Counted};
-ghost use Rattle.state.specs.State.{over, bits_test, evaluate_answer};
-ghost use Rattle.state.specs.Inner.{evaluate_on_map, RowTested};
+ghost use Rattle.map.specs.Check.{first_failed};
+ghost use Rattle.state.specs.State.{over, bits_test, configuration_tests, evaluate_answer};
+ghost use Rattle.state.specs.Inner.{evaluate_on_map, RowTested, IsConfigurationOf};
 
-use super::{Written, gates};
-use map::{Counts, decode};
-
-// A value as a byte.
-pub fn bit(v: bool) -> u8
-    ensures { result ≡ byte v }
-{
-    if v { 1 } else { 0 }
-}
-
-fn larger(a: u8, b: u8) -> u8
-    ensures { (a ≤ result) × ((b ≤ result) × ((result ≡ a) ⊎ (result ≡ b))) }
-{
-    if a < b { b } else { a }
-}
+use super::Values;
+use circuit::{Kind, Refusal};
+use map::Map;
 
 // Test 10, by the largest byte: a loop that goes to the end is one that the compiler can do many bytes at a time.
+#[tactic(auto, using(folds::proofs::Loops::all_none, folds::proofs::Loops::all_next, folds::proofs::Tests::bools), unfolding(crate::specs::State::bits_test))]
 pub fn bits_ok(s: &[u8]) -> bool
     ensures { result ≡ bits_test s.now }
 {
-    let n = s.len();
     let mut most = 0;
-    let mut i = 0;
-    while i < n {
-        most = larger(most, s[i]);
-        i += 1;
+    for b in s {
+        most = most.max(*b);
     }
     most <= 1
 }
 
-// The value of gate g: an input's from place `at` of the row, another's as its children give it.
-fn gate_value(map: &[u8], counts: Counts, g: usize, row: &[u8], at: usize, out: &[u8]) -> u8
-    requires counted { Counted map.now counts }
-    requires g_lt_gates { (g < counts.gates) × (counts.gates ≤ length out.now) }
-    requires row_tested { RowTested counts row.now × (at ≡ inputs_before (circuit map.now) g) }
-    ensures { result ≡ byte (cond (is_input (kind_of (kind_byte map.now g)))
-        (on row.now at)
-        (given (circuit map.now) out.now g)) }
+// Tests 9 and 10 of a configuration, which they hand on.
+#[tactic(auto, using(folds::proofs::Tests::bools, map::proofs::Laws::tests_by), unfolding(crate::specs::State::configuration_tests))]
+pub fn configuration<'a>(map: Map<'a>, bytes: &'a [u8]) -> Result<Values<'a>, Refusal>
+    ensures number { number_given result ≡ first_failed (configuration_tests map.entry.bytes.now bytes.now) }
+    ensures handed_on { IsConfigurationOf map.entry bytes.entry result }
 {
-    if decode::kind(map, g) == 0 {
-        return row[at];
+    if bytes.len() != map.gates {
+        return Err(Refusal::Length);
     }
-    bit(gates::given(map, counts, g, out))
+    if !bits_ok(bytes) {
+        return Err(Refusal::Bits);
+    }
+    Ok(Values { map, bytes })
+}
+
+// The value of gate g: an input's from place `at` of the row, another's as its children give it.
+#[tactic(auto, using(crate::proofs::Filling::row_has))]
+fn gate_value(s: Values, g: usize, row: &[u8], at: usize) -> u8
+    requires gate { g < s.map.gates }
+    requires row_tested { RowTested s.map.bytes.now row.now × (at ≡ inputs_before (circuit s.map.bytes.now) g) }
+    ensures { result ≡ byte (cond (is_input (kind_of (kind_byte s.entry.map.bytes.now g)))
+        (on row.now at)
+        (given (circuit s.entry.map.bytes.now) s.entry.bytes.now g)) }
+{
+    if s.map.kind(g) == Kind::Input {
+        row[at]
+    } else {
+        u8::from(s.given(g))
+    }
 }
 
 // Writes the values, in rising order.
-fn fill(map: &[u8], counts: Counts, row: &[u8], out: &mut [u8])
-    requires counted { Counted map.now counts }
-    requires row_tested { RowTested counts row.now × (counts.gates ≤ length out.old) }
-    ensures { out.new ≡ over (evaluate (circuit map.now) row.now) out.old }
+fn fill(map: Map, row: &[u8], out: &mut [u8])
+    requires row_tested { RowTested map.bytes.now row.now }
+    requires room { length out.old ≡ map.gates }
+    ensures { out.new ≡ evaluate (circuit map.entry.bytes.now) row.now }
 {
-    let gates = counts.gates;
     let mut at = 0;
-    let mut g = 0;
-    while g < gates {
-        let v = gate_value(map, counts, g, row, at, out);
-        out[g] = v;
-        at += kinds::input_bit(decode::kind(map, g));
-        g += 1;
+    for g in 0..map.gates {
+        let value = gate_value(Values { map, bytes: out }, g, row, at);
+        out[g] = value;
+        at += usize::from(map.kind(g) == Kind::Input);
     }
 }
 
 // Tests 9, 10 and 14, and the values.
-pub fn evaluate_accepted(map: &[u8], counts: Counts, row: &[u8], out: &mut [u8]) -> Written
-    requires { Counted map.now counts }
-    ensures { evaluate_answer result out.new ≡ evaluate_on_map map.now row.now out.old }
+#[tactic(auto, using(folds::proofs::Tests::bools, map::proofs::Laws::tests_by, crate::proofs::Filling::bits_of, crate::proofs::Answers::evaluated_by), unfolding(crate::specs::State::row_tests, crate::specs::Inner::evaluate_on_map))]
+pub fn evaluate_accepted(map: Map, row: &[u8], out: &mut [u8]) -> Result<(), Refusal>
+    ensures { evaluate_answer result out.new ≡ evaluate_on_map map.entry.bytes.now row.now out.old }
 {
-    if row.len() != counts.inputs {
-        return Written::Refused(9);
+    if row.len() != map.inputs() {
+        return Err(Refusal::Length);
     }
     if !bits_ok(row) {
-        return Written::Refused(10);
+        return Err(Refusal::Bits);
     }
-    if out.len() < counts.gates {
-        return Written::Refused(14);
+    if out.len() < map.gates {
+        return Err(Refusal::ShortMemory);
     }
-    fill(map, counts, row, out);
-    Written::Done
+    fill(map, row, &mut out[..map.gates]);
+    Ok(())
 }

@@ -1,5 +1,5 @@
 -- For inner functions: an option by the places of its children, the options left by their places, and what greedy weighs an option by. Assumes nothing.
-use Rattle.std.specs.Prelude.{ℕ, ◌≤◌, ◌≡◌, Bool, not, List, map, length, get_or, take}
+use Rattle.std.specs.Prelude.{ℕ, Bool, not, List, map, Option, Some, None}
 use Rattle.folds.specs.Folds.{◌and◌, all_below}
 use Rattle.circuit.specs.Tools.{up_to, select}
 use Rattle.circuit.specs.Gate.{kind_of}
@@ -8,9 +8,6 @@ use Rattle.circuit.specs.Survey.{interest_size}
 use Rattle.circuit.specs.Run.{turn, Chosen, option, none_left}
 use Rattle.map.specs.Map.{kind_byte, fan_in, child_at, circuit}
 use Rattle.kinds.specs.Kinds.{option_count, option_turns}
-use Rattle.steps.specs.declared.Listing.{Listing}
-use Rattle.steps.specs.declared.Sought.{Sought}
-use Rattle.steps.specs.declared.Sought.TheVariants.{At, NoneLeft}
 
 -- how many options gate g of the map m has in s
 unfoldable pub option_count_of : List ℕ → List ℕ → ℕ → ℕ
@@ -40,22 +37,19 @@ option_left m s g i = all_below (fan_in m g) (child_allowed m s g i)
 unfoldable pub left_up_to : List ℕ → List ℕ → ℕ → ℕ → List ℕ
 left_up_to m s g n = select (option_left m s g) (up_to n)
 
--- a listing has them all
-pub record LeftAre (m s : List ℕ) (g : ℕ) (l : Listing) : Type 0 where
-  pub few : l.many ≤ 8
-  pub room : length l.places ≡ 8
-  pub are : take l.many l.places ≡ left_up_to m s g (option_count_of m s g)
+abbrev pub left_of : List ℕ → List ℕ → ℕ → List ℕ
+left_of m s g = left_up_to m s g (option_count_of m s g)
 
 -- what is done by the answer of a search for an option
-abbrev pub sought_chosen : List ℕ → List ℕ → ℕ → Sought → Chosen
-sought_chosen m s g (At i) = option (option_gates m s g i)
-sought_chosen m s g NoneLeft = none_left (circuit m) g
+abbrev pub sought_chosen : List ℕ → List ℕ → ℕ → Option ℕ → Chosen
+sought_chosen m s g (Some i) = option (option_gates m s g i)
+sought_chosen m s g None = none_left (circuit m) g
 
 -- ---- greedy
 
--- the weights of the options at the first n of some places
-unfoldable pub weights_of : (List ℕ → ℕ) → List ℕ → List ℕ → ℕ → List ℕ → ℕ → List ℕ
-weights_of weight m s g places n = map (λ k. weight (option_gates m s g (get_or places k 0))) (up_to n)
+-- the weights of some options
+abbrev pub weights_of : (List ℕ → ℕ) → List ℕ → List ℕ → ℕ → List ℕ → List ℕ
+weights_of weight m s g options = map (λ i. weight (option_gates m s g i)) options
 
 -- what greedy weighs an option by: the size of the interest set after it
 abbrev pub interest_after : List ℕ → List ℕ → List ℕ → ℕ

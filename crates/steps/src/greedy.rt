@@ -1,103 +1,75 @@
 // Greedy choices: the option with the smallest interest set after the move.
-ghost use Rattle.std.specs.Prelude.{◌≡◌, ◌++◌, ◌<◌, ◌≤◌, length, drop};
+ghost use Rattle.std.specs.Prelude.{◌≡◌, ◌≤◌, length};
 ghost use Rattle.circuit.specs.declared.Choice.TheVariants.{Greedy};
 ghost use Rattle.circuit.specs.Run.{chosen};
 ghost use Rattle.map.specs.Map.{circuit};
-ghost use Rattle.map.specs.Inner.{Counted};
-ghost use Rattle.steps.specs.Options.{option_gates, LeftAre, sought_chosen, weights_of, interest_after};
-ghost use Rattle.steps.specs.Steps.{Space, Workspace, Drawable};
+ghost use Rattle.steps.specs.Options.{option_gates, sought_chosen, weights_of, interest_after};
 
-use super::{Listing, Sought, left, options};
-use map::Counts;
+use super::{Drawn, MOST_OPTIONS, Trial, left, options};
+use arrayvec::ArrayVec;
 use picks::weights;
+use state::Values;
 use survey::writing;
 
-// Copies s over the trial configuration.
+// Copies s over a trial configuration. (Value by value: `copy_from_slice` asks the C library for memcpy, and the archives ask it for memset alone.)
 fn copy(s: &[u8], trial: &mut [u8])
     requires { length s.now ≡ length trial.old }
     ensures { trial.new ≡ s.now }
 {
-    let n = s.len();
-    let mut i = 0;
-    while i < n {
-        trial[i] = s[i];
-        i += 1;
+    for (i, value) in s.iter().enumerate() {
+        trial[i] = *value;
     }
 }
 
-// The size of the interest set after option i of gate g.
-fn weigh(
-    map: &[u8],
-    counts: Counts,
-    g: usize,
-    i: usize,
-    s: &[u8],
-    trial: &mut [u8],
-    scratch: &mut [u8],
-) -> u16
-    requires counted { Counted map.now counts }
-    requires g_lt_gates { (g < counts.gates) × Space counts.gates s.now trial.old scratch.old }
-    ensures { result ≡ interest_after map.now s.now (option_gates map.now s.now g i) }
+// The size of the interest set after option i of the gate.
+fn weigh(drawn: Drawn, i: usize, trial: &mut Trial) -> u16
+    ensures { result
+        ≡ interest_after drawn.entry.s.map.bytes.now drawn.entry.s.bytes.now (option_gates drawn.entry.s.map.bytes.now drawn.entry.s.bytes.now drawn.entry.gate.number i) }
 {
-    copy(s, trial);
-    options::flip_option(map, counts, g, i, trial);
-    let sizes = writing::write(map, counts, trial, scratch);
+    let s = drawn.s;
+    let gates = s.map.gates;
+    // (whole slices first: parts of two fields are not lent at once)
+    let values = &mut trial.values[..];
+    let marks = &mut trial.marks[..];
+    let after = &mut values[..gates];
+    copy(s.bytes, after);
+    options::flip_option(drawn.gate, i, after);
+    let sizes = writing::write(
+        Values {
+            map: s.map,
+            bytes: after,
+        },
+        &mut marks[..gates],
+    );
     sizes.interest
 }
 
-// The weights of the options of gate g that are left: the sizes of the interest set after them.
-fn weigh_all(
-    map: &[u8],
-    counts: Counts,
-    g: usize,
-    left: Listing,
-    s: &[u8],
-    trial: &mut [u8],
-    scratch: &mut [u8],
-    weighed: &mut [u16],
-)
-    requires counted { Counted map.now counts }
-    requires g_lt_gates { (g < counts.gates) × Space counts.gates s.now trial.old scratch.old }
-    requires left_are { LeftAre map.now s.now g left × (left.many ≤ length weighed.old) }
-    ensures { weighed.new
-        ≡ weights_of (interest_after map.now s.now) map.now s.now g left.places left.many
-        ++ drop left.many weighed.old }
+// The weights of some options of the gate: the sizes of the interest set after them.
+fn weigh_all(drawn: Drawn, left: &[usize], trial: &mut Trial) -> ArrayVec<u16, MOST_OPTIONS>
+    requires { length left.now ≤ MOST_OPTIONS }
+    ensures { result.items
+        ≡ weights_of (interest_after drawn.entry.s.map.bytes.now drawn.entry.s.bytes.now) drawn.entry.s.map.bytes.now drawn.entry.s.bytes.now drawn.entry.gate.number left.now }
 {
-    let many = left.many;
-    let places = left.places;
-    let mut k = 0;
-    while k < many {
-        weighed[k] = weigh(map, counts, g, places[k], s, trial, scratch);
-        k += 1;
+    let mut weighed = ArrayVec::new();
+    for option in left {
+        weighed.push(weigh(drawn, *option, trial));
     }
+    weighed
 }
 
-// Of the options of gate g that are left the one that greedy with option byte i picks, or that there is none. A single one is not weighed.
-pub fn seek(
-    map: &[u8],
-    counts: Counts,
-    g: usize,
-    i: u8,
-    coded: &[u8],
-    s: &[u8],
-    trial: &mut [u8],
-    scratch: &mut [u8],
-) -> Sought
-    requires counted { Counted map.now counts }
-    requires drawable { Drawable map.now counts.gates s.now g }
-    requires workspace { Workspace map.now counts.gates coded.now s.now trial.old scratch.old }
-    ensures { sought_chosen map.now s.now g result ≡ chosen (circuit map.now) s.now g (Greedy i) }
+// Of the options of the gate that are left the one that greedy with option byte i picks, if there is one. A single one is not weighed.
+#[tactic(auto, using(crate::proofs::Choices::seeks_none, crate::proofs::Choices::seeks_one, crate::proofs::Choices::seeks_greedy))]
+pub fn seek(drawn: Drawn, i: u8, trial: &mut Trial) -> Option<usize>
+    ensures { sought_chosen drawn.entry.s.map.bytes.now drawn.entry.s.bytes.now drawn.entry.gate.number result
+        ≡ chosen (circuit drawn.entry.s.map.bytes.now) drawn.entry.s.bytes.now drawn.entry.gate.number (Greedy i) }
 {
-    let left = left::list(map, counts, g, coded, s);
-    let many = left.many;
-    let places = left.places;
-    if many == 0 {
-        return Sought::NoneLeft;
+    let left = left::list(drawn);
+    match left.as_slice() {
+        [] => None,
+        [only] => Some(*only),
+        several => {
+            let weighed = weigh_all(drawn, several, trial);
+            Some(several[weights::best(&weighed, i)])
+        }
     }
-    if many == 1 {
-        return Sought::At(places[0]);
-    }
-    let mut weighed = [0u16; 8];
-    weigh_all(map, counts, g, left, s, trial, scratch, &mut weighed);
-    Sought::At(places[weights::best(&weighed, many, i)])
 }

@@ -14,7 +14,7 @@ use Rattle.circuit.proofs.Survey.{survey_is}
 use Rattle.map.specs.Map.{gate_count, circuit}
 use Rattle.map.specs.Check.{first_failed, map_tests}
 use Rattle.map.proofs.Laws.{past, no_test, none_failed, passed_before}
-use Rattle.map.proofs.Accepted.{facts, well_formed}
+use Rattle.map.proofs.Facts.{facts, well_formed}
 use Rattle.map.proofs.Answers.{behind_accepted}
 use Rattle.map.proofs.Described.{tested, map_number}
 use Rattle.state.specs.State.{over}

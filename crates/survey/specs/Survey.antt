@@ -1,6 +1,8 @@
 -- Document 01's Survey, on bytes. Assumes nothing.
-use Rattle.std.specs.Prelude.{ℕ, ◌+◌, ◌*◌, ◌<◌, ◌≡◌, ◌↔◌, Bool, true, false, cond, List, [], ◌∷◌, ◌++◌, length, get_or, drop, eqb, leb}
+use Rattle.std.specs.Prelude.{ℕ, ◌+◌, ◌*◌, ◌<◌, ◌≡◌, ◌↔◌, Bool, true, false, cond, List, [], ◌∷◌, ◌++◌, length, get_or, drop, eqb, leb, Result, Ok, Err}
 use Rattle.folds.specs.Folds.{all_below}
+use Rattle.circuit.specs.declared.Refusal.{Refusal}
+use Rattle.circuit.specs.Refusal.{number_of}
 use Rattle.circuit.specs.Tools.{byte}
 use Rattle.circuit.specs.Circuit.{on}
 use Rattle.circuit.specs.Evaluate.{shows_code, KeepsCodes}
@@ -9,8 +11,7 @@ use Rattle.circuit.specs.Source001.{Cone, Front, Interesting, Size}
 use Rattle.map.specs.Map.{gate_count, code_count, code_gate, code_value, circuit}
 use Rattle.map.specs.Check.{first_failed, map_tests, verdict, Test, MapNumber}
 use Rattle.state.specs.State.{configuration_tests, ConfigurationNumber, over, HasRoom}
-use Rattle.survey.specs.declared.Surveyed.{Surveyed}
-use Rattle.survey.specs.declared.Surveyed.TheVariants.{Done, Refused}
+use Rattle.survey.specs.declared.Sizes.{Sizes}
 
 -- ---- the tests
 
@@ -37,9 +38,9 @@ pub record SurveyEffect : Type 0 where
   pub out : List ℕ
 
 -- document 01's number and values of each case of the answer that is returned, beside the memory
-unfoldable pub survey_answer : Surveyed → List ℕ → SurveyEffect
-survey_answer (Done z) w = record { accepted = true; number = 0; front = z.front; interest = z.interest; out = w }
-survey_answer (Refused n) w = record { accepted = false; number = n; front = 0; interest = 0; out = w }
+unfoldable pub survey_answer : Result Sizes Refusal → List ℕ → SurveyEffect
+survey_answer (Ok z) w = record { accepted = true; number = 0; front = z.front; interest = z.interest; out = w }
+survey_answer (Err r) w = record { accepted = false; number = number_of r; front = 0; interest = 0; out = w }
 
 -- what a call with this number gives and leaves: "Survey writes one byte per gate .. and returns the sizes"; refused, it "leaves all lent memory
 -- untouched; the other numbers of its answer .. are then 0"

@@ -6,35 +6,38 @@ ghost use Rattle.tape.specs.Tape.{choice_of, entry_at, tape_length_test, entry_k
 ghost use Rattle.tape.specs.Inner.{step_at};
 
 use circuit::{Choice, Entry};
-use map::decode;
 
 // The longest tape, in bytes.
 pub const MOST_TAPE: usize = 65532;
 
 // The tape reader: the lent tape and the place reached.
-#[derive(Clone, Copy)]
+#[derive(Clone, Copy, Debug, PartialEq, Eq)]
 pub struct Tape<'a> {
     pub src: &'a [u8],
     pub at: usize,
 }
 
-// The entry at a place with the place behind it, or the end of the tape.
-#[derive(Clone, Copy)]
-pub enum Step {
-    Next(Entry, usize),
-    End,
+impl Tape<'_> {
+    // The entry at the place reached with the place behind it, or none at the end of the tape. The place moves on by four.
+    #[tactic(auto, unfolding(crate::specs::Inner::step_at))]
+    pub fn read(self) -> Option<(Entry, usize)>
+        ensures { result ≡ step_at self.entry.src.now self.entry.at }
+    {
+        if self.src.len() < 4 || self.src.len() - 4 < self.at {
+            return None;
+        }
+        Some((entry_at(self.src, self.at), self.at + 4))
+    }
 }
 
 fn choice_of(kind: u8, option: u8) -> Choice
     ensures { result ≡ choice_of kind option }
 {
-    if kind == 0 {
-        return Choice::Greedy(option);
+    match kind {
+        0 => Choice::Greedy(option),
+        1 => Choice::Down(option),
+        _ => Choice::Up(option),
     }
-    if kind == 1 {
-        return Choice::Down(option);
-    }
-    Choice::Up(option)
 }
 
 // The entry at a place.
@@ -43,47 +46,14 @@ fn entry_at(tape: &[u8], at: usize) -> Entry
     requires { at + 4 ≤ length tape.now }
     ensures { result ≡ entry_at tape.now at }
 {
-    let draw = decode::word(tape, at) as u16;
-    let choice = choice_of(tape[at + 2], tape[at + 3]);
-    Entry { draw, choice }
-}
-
-// What stands at a place, on plain parameters. The place moves on by four.
-#[tactic(auto, unfolding(crate::specs::Inner::step_at))]
-fn step_at(tape: &[u8], at: usize) -> Step
-    ensures { result ≡ step_at tape.now at }
-{
-    if tape.len() < 4 {
-        return Step::End;
+    Entry {
+        draw: map::word(tape, at) as u16,
+        choice: choice_of(tape[at + 2], tape[at + 3]),
     }
-    if tape.len() - 4 < at {
-        return Step::End;
-    }
-    Step::Next(entry_at(tape, at), at + 4)
-}
-
-// A reader at a place of a tape.
-fn reader<'a>(src: &'a [u8], at: usize) -> Tape<'a>
-    ensures { (result.src ≡ src.entry) × (result.at ≡ at) }
-{
-    Tape { src, at }
-}
-
-// What stands at the reader's place.
-fn next<'a>(tape: Tape<'a>) -> Step
-    ensures { result ≡ step_at tape.entry.src.now tape.entry.at }
-{
-    step_at(tape.src, tape.at)
-}
-
-// Reads the entry at a place: Run and Move read every entry so.
-pub fn read(tape: &[u8], at: usize) -> Step
-    ensures { result ≡ step_at tape.now at }
-{
-    next(reader(tape, at))
 }
 
 // Test 12 for Run.
+#[tactic(auto, using(folds::proofs::Tests::bools), unfolding(crate::specs::Tape::tape_length_test))]
 pub fn length_ok(tape: &[u8]) -> bool
     ensures { result ≡ tape_length_test tape.now }
 {
@@ -95,13 +65,10 @@ pub fn length_ok(tape: &[u8]) -> bool
 pub fn kinds_ok(tape: &[u8]) -> bool
     ensures { result ≡ entry_kinds_test tape.now }
 {
-    let n = tape.len() / 4;
-    let mut i = 0;
-    while i < n {
+    for i in 0..tape.len() / 4 {
         if 2 < tape[4 * i + 2] {
             return false;
         }
-        i += 1;
     }
     true
 }

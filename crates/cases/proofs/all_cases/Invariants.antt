@@ -1,4 +1,5 @@
+use Rattle.std.proofs.Common.{length}
 use Rattle.cases.proofs.all_cases.Given as goal
 
-abbrev pub decreases-loop-turns : goal.decreases-loop-turns
-decreases-loop-turns g l = l.turns
+abbrev pub decreases-loop-case : goal.decreases-loop-case
+decreases-loop-case g l = length l.rest

@@ -1,12 +1,7 @@
-use Rattle.folds.proofs.Loops.{loops_of}
-use borrow.Author.Rules.{rules}
+use Rattle.std.proofs.Common.{rules}
+use Rattle.folds.proofs.Chains.{all_by_chain}
+use Rattle.map.specs.Check.{children_test}
 use Rattle.map.proofs.tests.all_children_ok.Goals as goal
 
-pub loop-g-init : goal.loop-g-init
-loop-g-init c = search (rules, loops_of)
-
-pub returns-then-not-children_ok : goal.returns-then-not-children_ok
-returns-then-not-children_ok c = search (rules, loops_of)
-
-pub loop-g-preserved : goal.loop-g-preserved
-loop-g-preserved c = search (rules, loops_of)
+pub returns : goal.returns
+returns c = all_by_chain _ (children_test c.args.map.table.bytes.now) c.all.ensures.ran c.args.map.table.contents.gates_is (λ x q k. search rules) (λ x q k. search rules)

@@ -1,11 +1,6 @@
-use Prim.Native.Nat.{◌-◌, ◌≤◌}
-use mathlib.Core.Path.{◌≡◌}
-use lib.ListN.{length, take}
+use Rattle.std.proofs.Common.{◌≡◌, ◌≤◌, length}
 use Rattle.steps.specs.Options.{left_up_to}
 use Rattle.steps.proofs.left.list.Given as goal
 
 abbrev pub invariant-loop-i : goal.invariant-loop-i
-invariant-loop-i l = (l.i ≤ l.n) × ((l.many ≤ l.i) × ((l.n ≤ 8) × ((length l.places ≡ 8) × (take l.many l.places ≡ left_up_to l.map l.s l.g l.i))))
-
-abbrev pub decreases-loop-i : goal.decreases-loop-i
-decreases-loop-i l = l.n - l.i
+invariant-loop-i l = (length l.left.items ≤ l.i) × (l.left.items ≡ left_up_to l.drawn.s.map.bytes.now l.drawn.s.bytes.now l.drawn.gate.number l.i)

@@ -1,0 +1,38 @@
+-- A test of every number below n, by a chain `(0..n).all(p)`. Assumes nothing.
+use Rattle.std.proofs.Common.{ℕ, ◌<◌, ◌≡◌, Bool, true, false, List, Option, length, get_or, refl, sym, ◌∙◌, arith, subst, zero-add}
+use Rattle.std.specs.Bool.{MatchBool}
+use Rattle.std.specs.Option.{MatchOption}
+use Rattle.std.specs.Fn.{Called}
+use Rattle.std.specs.List.{FoldsTo, AllWithin, HoldsAt, range_with_len}
+use Rattle.std.specs.Iterator.{YieldsThen}
+use Rattle.std.specs.declared.ops.Range.{Range}
+use Rattle.std.proofs.iter.Yields.{nat_range_steps}
+use Rattle.std.proofs.lemmas.Iterator.{cases_from_all, YieldsList-from_range}
+use Rattle.std.proofs.lemmas.List.FromFn.{length-range_with_len, get_or-range_with_len}
+use denote.Param.Members.{Mut}
+use Rattle.folds.specs.Folds.{all_below}
+use Rattle.folds.proofs.Loops.{all_of, all_fails}
+
+-- the test of each of 0, 1, .., n - 1, by what std says of the chain's answer
+told : (r : Bool) (n : ℕ) (p : ℕ → Bool)
+    → MatchBool r (AllWithin (λ x. p x ≡ true) (range_with_len 0 n) 0 (length (range_with_len 0 n)))
+    ((k : ℕ) × (k < length (range_with_len 0 n)) × HoldsAt (λ x. p x ≡ false) (range_with_len 0 n) k)
+    → r ≡ all_below n p
+told true n p h = sym (all_of p n (λ i l.
+    let at : get_or (range_with_len 0 n) i 0 ≡ i = get_or-range_with_len 0 n i 0 l ∙ zero-add i in
+    subst (λ (x : ℕ). p x ≡ true) at (h i 0 (omega arith) (omega (arith, length-range_with_len 0 n)))))
+told false n p (k, l, e) =
+    let l' : k < n = omega (arith, length-range_with_len 0 n) in
+    let at : get_or (range_with_len 0 n) k 0 ≡ k = get_or-range_with_len 0 n k 0 l' ∙ zero-add k in
+    sym (all_fails p n k l' (subst (λ (x : ℕ). p x ≡ false) at (e 0)))
+
+-- What `(0..end).all(test)` answered, by the call's clause `ran`, where the test answers as p does and changes nothing it captures.
+pub all_by_chain : {F : Type 0} {g : Mut F (ℕ × Unit {0}) Bool} {end : ℕ} {u : Range ℕ} {f : F} {r : Bool} (n : ℕ) (p : ℕ → Bool)
+    → (xs : List ℕ) × (o : Option ℕ) × (j : F) × YieldsThen nat_range_steps (record { start = 0; end = end }) xs o u
+    × FoldsTo (λ t x q. Called g t (x, tt) true q) f xs j × MatchOption o (r ≡ true) (λ x. (r ≡ false) × ((h : F) × Called g j (x, tt) false h))
+    → end ≡ n
+    → ((x : ℕ) (q : F) → Called g f (x, tt) true q → (q ≡ f) × (p x ≡ true))
+    → ((x : ℕ) (q : F) → Called g f (x, tt) false q → p x ≡ false)
+    → r ≡ all_below n p
+all_by_chain {end} {u} {f} {r} n p ran e pass fail =
+    told r n p (cases_from_all u f r (λ x. p x ≡ true) (λ x. p x ≡ false) ran (YieldsList-from_range 0 end n refl (omega arith)) pass fail)
