@@ -1,4 +1,4 @@
-// Move and Run for hosts in C and Rust, as `abi_state` has its calls.
+// Move and Run for hosts in C and Rust, as `abi_state` has its calls. (A u32 becomes a usize by `as`: there is no `From` for it.)
 #![tactic(auto)]
 
 ghost use Rattle.std.specs.Prelude.{◌≡◌, [], ◌∷◌};
@@ -7,7 +7,7 @@ ghost use Rattle.search.specs.Run.{run_effect};
 ghost use Rattle.abi_state.specs.Numbers.{host_answer};
 ghost use Rattle.abi_search.specs.Numbers.{move_for_host, run_for_host};
 
-use abi_state::place;
+use abi_state::place::{self, Numbers};
 use circuit::Ending;
 
 // Move. Numbers: the drawn gate, how many values it turned: 0 where it is stuck.
@@ -24,10 +24,9 @@ pub extern "C" fn peeriewick_move(
         ≡ move_for_host (move_effect map.now configuration.old entry.now work.old)
         numbers.old }
 {
-    match search::make_move(map, configuration, entry, work) {
-        Ok(report) => place::place(numbers, &[report.gate, report.turned as usize]),
-        Err(refusal) => u8::from(refusal),
-    }
+    let moved = search::make_move(map, configuration, entry, work);
+    let answer = moved.map(|r| Numbers([r.gate, r.turned as usize]));
+    place::tell(numbers, answer)
 }
 
 // Run. Numbers: 1 for Found, 2 for Stuck and 0 for Spent, moves, flips, the front's size.
@@ -48,10 +47,11 @@ pub extern "C" fn peeriewick_run(
     let outcome = search::run(map, configuration, tape, work, answer);
     let moves = usize::from(outcome.moves);
     let flips = outcome.flips as usize;
-    match outcome.ending {
-        Ending::Refused(refusal) => u8::from(refusal),
-        Ending::Found => place::place(numbers, &[1, moves, flips, 0]),
-        Ending::Stuck => place::place(numbers, &[2, moves, flips, 0]),
-        Ending::Spent(front) => place::place(numbers, &[0, moves, flips, usize::from(front)]),
-    }
+    let told = match outcome.ending {
+        Ending::Refused(refusal) => Err(refusal),
+        Ending::Found => Ok(Numbers([1, moves, flips, 0])),
+        Ending::Stuck => Ok(Numbers([2, moves, flips, 0])),
+        Ending::Spent(front) => Ok(Numbers([0, moves, flips, usize::from(front)])),
+    };
+    place::tell(numbers, told)
 }

@@ -3,12 +3,13 @@
 #![tactic(auto)]
 
 pub mod place;
-mod stretch;
 
 ghost use Rattle.std.specs.Prelude.{◌≡◌, [], ◌∷◌};
 ghost use Rattle.map.specs.Check.{check_effect};
 ghost use Rattle.state.specs.State.{evaluate_effect, mark_effect};
 ghost use Rattle.abi_state.specs.Numbers.{host_answer, check_for_host, children_numbers, evaluate_for_host, mark_for_host};
+
+use place::Numbers;
 
 // Check. Numbers: gates, inputs, children, codes.
 #[tactic(auto, unfolding(map::specs::Check::check_answer))]
@@ -16,13 +17,8 @@ ghost use Rattle.abi_state.specs.Numbers.{host_answer, check_for_host, children_
 pub extern "C" fn peeriewick_check(map: &[u8], numbers: &mut [usize]) -> u8
     ensures { host_answer result [] numbers.new ≡ check_for_host (check_effect map.now) numbers.old }
 {
-    match map::check(map) {
-        Ok(counts) => place::place(
-            numbers,
-            &[counts.gates, counts.inputs, counts.children, counts.codes],
-        ),
-        Err(refusal) => u8::from(refusal),
-    }
+    let answer = map::check(map).map(|c| Numbers([c.gates, c.inputs, c.children, c.codes]));
+    place::tell(numbers, answer)
 }
 
 // Where in the map the children of a gate stand: its start in numbers 0, its length in bytes in numbers 1.
@@ -30,11 +26,11 @@ pub extern "C" fn peeriewick_check(map: &[u8], numbers: &mut [usize]) -> u8
 pub extern "C" fn peeriewick_children(map: &[u8], gate: usize, numbers: &mut [usize])
     ensures { numbers.new ≡ children_numbers map.now gate numbers.old }
 {
-    let part = stretch::of(map, gate);
-    place::place(numbers, &[part.at, part.size]);
+    let part = map::stretch(map, gate);
+    place::place(numbers, &[part.start, part.len()]);
 }
 
-// Evaluate.
+// Evaluate. (Not by `tell`: it has no numbers.)
 #[tactic(auto, unfolding(state::specs::State::evaluate_answer))]
 #[unsafe(no_mangle)]
 pub extern "C" fn peeriewick_evaluate(map: &[u8], row: &[u8], out: &mut [u8]) -> u8
@@ -54,8 +50,6 @@ pub extern "C" fn peeriewick_mark(map: &[u8], configuration: &[u8], numbers: &mu
     ensures { host_answer result [] numbers.new
         ≡ mark_for_host (mark_effect map.now configuration.now) numbers.old }
 {
-    match state::mark(map, configuration) {
-        Ok(yes) => place::place(numbers, &[usize::from(yes)]),
-        Err(refusal) => u8::from(refusal),
-    }
+    let answer = state::mark(map, configuration).map(|yes| Numbers([usize::from(yes)]));
+    place::tell(numbers, answer)
 }

@@ -6,7 +6,7 @@ ghost use Rattle.survey.specs.Survey.{survey_effect};
 ghost use Rattle.abi_state.specs.Numbers.{host_answer};
 ghost use Rattle.abi_survey.specs.Numbers.{survey_for_host};
 
-use abi_state::place;
+use abi_state::place::{self, Numbers};
 
 // Survey. Numbers: front, interest.
 #[tactic(auto, unfolding(survey::specs::Survey::survey_answer))]
@@ -20,11 +20,7 @@ pub extern "C" fn peeriewick_survey(
     ensures { host_answer result (out.new ∷ []) numbers.new
         ≡ survey_for_host (survey_effect map.now configuration.now out.old) numbers.old }
 {
-    match survey::survey(map, configuration, out) {
-        Ok(sizes) => place::place(
-            numbers,
-            &[usize::from(sizes.front), usize::from(sizes.interest)],
-        ),
-        Err(refusal) => u8::from(refusal),
-    }
+    let surveyed = survey::survey(map, configuration, out);
+    let answer = surveyed.map(|s| Numbers([usize::from(s.front), usize::from(s.interest)]));
+    place::tell(numbers, answer)
 }

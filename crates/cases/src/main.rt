@@ -5,16 +5,47 @@
 
 ghost use Rattle.std.specs.Prelude.{◌≤◌, ◌<◌, IfSome, length};
 
+use arrayvec::ArrayVec;
 use circuit::{Ending, Outcome, Refusal};
 use line::LINE_ROOM;
 use map::word;
 use reading::read_full;
 use std::io;
+use std::io::Write;
+
+// What a case runs.
+#[derive(Clone, Copy, Debug, PartialEq, Eq)]
+enum Op {
+    Check,
+    Children,
+    Evaluate,
+    Mark,
+    Survey,
+    Move,
+    Run,
+    Program,
+}
+
+// By the op byte: any that is no other's is Mark.
+impl From<u8> for Op {
+    fn from(byte: u8) -> Op {
+        match byte {
+            b'c' => Op::Check,
+            b'k' => Op::Children,
+            b'e' => Op::Evaluate,
+            b's' => Op::Survey,
+            b'v' => Op::Move,
+            b'r' => Op::Run,
+            b'p' => Op::Program,
+            _ => Op::Mark,
+        }
+    }
+}
 
 // A case, with the lengths that it gives to the output or work memory and to the answer memory.
-#[derive(Clone, Copy)]
+#[derive(Clone, Copy, Debug, PartialEq, Eq)]
 struct Case<'a> {
-    op: u8,
+    op: Op,
     map: &'a [u8],
     body: &'a [u8],
     tape: &'a [u8],
@@ -25,6 +56,9 @@ struct Case<'a> {
 
 // Memory to lend: every byte is 170.
 const LENT: [u8; 2048] = [170; 2048];
+
+// A configuration, a tape or an input: more bytes than any may have.
+type Bytes = ArrayVec<u8, 66000>;
 
 fn print_refused(rt: &impl Print, refusal: Refusal) -> io::Result<()> {
     print!(rt; "REFUSED {}", u8::from(refusal))
@@ -67,7 +101,7 @@ fn children(rt: &impl Print, map: &[u8], body: &[u8]) -> io::Result<()> {
     if body.len() < 2 {
         return Ok(());
     }
-    for child in map::children(map, word(body, 0)).chunks_exact(2) {
+    for child in map::children(map, usize::from(word(body, 0))).chunks_exact(2) {
         print!(rt; " {}", word(child, 0))?;
     }
     Ok(())
@@ -147,26 +181,18 @@ fn program(rt: &impl Print, input: &[u8]) -> io::Result<()> {
     Ok(())
 }
 
-// Copies what fits behind place `at`. Returns the place behind it.
-fn append(src: &[u8], dst: &mut [u8], at: usize) -> usize
-    requires { at ≤ length dst.old }
-    ensures { result ≤ length dst.new }
-{
-    let n = src.len().min(dst.len() - at);
-    dst[at..at + n].copy_from_slice(&src[..n]);
-    at + n
+// Appends what fits of these bytes.
+fn append(bytes: &[u8], to: &mut Bytes) -> io::Result<()> {
+    let _taken = to.write(bytes)?;
+    Ok(())
 }
 
 // The same so many times over.
-fn repeat(src: &[u8], times: usize, dst: &mut [u8], at: usize) -> usize
-    requires { at ≤ length dst.old }
-    ensures { result ≤ length dst.new }
-{
-    let mut end = at;
+fn repeat(bytes: &[u8], times: usize, to: &mut Bytes) -> io::Result<()> {
     for _ in 0..times {
-        end = append(src, dst, end);
+        append(bytes, to)?;
     }
-    end
+    Ok(())
 }
 
 // Run on the repeated tape, with answer memory of its own.
@@ -176,68 +202,58 @@ fn run_case(
     configuration: &mut [u8],
     work: &mut [u8],
 ) -> io::Result<()> {
-    let mut answer = LENT;
-    let mut tape = [0u8; 66000];
-    let n = repeat(case.tape, case.times, &mut tape, 0);
-    let room = case.answer.min(LENT.len());
-    run(
-        rt,
-        case.map,
-        configuration,
-        &tape[..n],
-        work,
-        &mut answer[..room],
-    )
+    let mut tape = Bytes::new();
+    repeat(case.tape, case.times, &mut tape)?;
+    let mut memory = LENT;
+    let answer = &mut memory[..case.answer.min(LENT.len())];
+    run(rt, case.map, configuration, &tape, work, answer)
 }
 
 // The program on an input of the case's parts one behind the other.
 fn program_case(rt: &impl Print, case: Case) -> io::Result<()> {
-    let mut input = [0u8; 66000];
-    let a = append(case.map, &mut input, 0);
-    let b = append(case.body, &mut input, a);
-    let n = repeat(case.tape, case.times, &mut input, b);
-    program(rt, &input[..n])
+    let mut input = Bytes::new();
+    append(case.map, &mut input)?;
+    append(case.body, &mut input)?;
+    repeat(case.tape, case.times, &mut input)?;
+    program(rt, &input)
 }
 
+// Runs a case and ends its line. (A `match`: each case lends other memory, and closures would be a table of functions.)
 fn one_case(rt: &impl Print, case: Case) -> io::Result<()> {
     let mut memory = LENT;
     let out = &mut memory[..case.room.min(LENT.len())];
-    let mut space = [0u8; 65536];
-    let n = append(case.body, &mut space, 0);
-    let configuration = &mut space[..n];
+    let mut configuration = Bytes::new();
+    append(case.body, &mut configuration)?;
     match case.op {
-        b'c' => check(rt, case.map),
-        b'k' => children(rt, case.map, case.body),
-        b'e' => evaluate(rt, case.map, case.body, out),
-        b's' => survey(rt, case.map, case.body, out),
-        b'v' => make_move(rt, case.map, configuration, case.tape, out),
-        b'r' => run_case(rt, case, configuration, out),
-        b'p' => program_case(rt, case),
-        _ => mark(rt, case.map, case.body),
+        Op::Check => check(rt, case.map),
+        Op::Children => children(rt, case.map, case.body),
+        Op::Evaluate => evaluate(rt, case.map, case.body, out),
+        Op::Mark => mark(rt, case.map, case.body),
+        Op::Survey => survey(rt, case.map, case.body, out),
+        Op::Move => make_move(rt, case.map, &mut configuration, case.tape, out),
+        Op::Run => run_case(rt, case, &mut configuration, out),
+        Op::Program => program_case(rt, case),
     }?;
     print!(rt; "\n")
 }
 
 // The length of a case's header.
-fn header_length(op: u8) -> usize
+fn header_length(op: Op) -> usize
     ensures { (7 ≤ result) × (result ≤ 15) }
 {
     match op {
-        b'v' => 11,
-        b'r' | b'p' => 15,
+        Op::Move => 11,
+        Op::Run | Op::Program => 15,
         _ => 7,
     }
 }
 
-// The u16 at a place of the header, or 0 where the header ends before it.
-fn field(header: &[u8], at: usize) -> usize
+// The u16 at a place of the header, if the header reaches so far. (What a header lacks counts as 0.)
+fn field(header: &[u8], at: usize) -> Option<u16>
     requires { at ≤ 65536 }
-    ensures { result < 65536 }
 {
-    if header.len() < at + 2 {
-        return 0;
-    }
-    word(header, at)
+    let bytes = header.get(at..at + 2)?;
+    Some(word(bytes, 0))
 }
 
 // The case that stands first, if it is whole, and what is behind it.
@@ -247,15 +263,17 @@ fn first_case(s: &[u8]) -> Option<(Case, &[u8])>
     if s.len() < 7 {
         return None;
     }
-    let op = s[0];
+    let op = Op::from(s[0]);
     let head = header_length(op);
     if s.len() < head {
         return None;
     }
     let header = &s[..head];
-    let body = head + field(header, 1);
-    let tape = body + field(header, 3);
-    let end = tape + field(header, 7) + 65536 * field(header, 9);
+    let body = head + usize::from(word(header, 1));
+    let tape = body + usize::from(word(header, 3));
+    let end = tape
+        + usize::from(field(header, 7).unwrap_or(0))
+        + 65536 * usize::from(field(header, 9).unwrap_or(0));
     if s.len() < end {
         return None;
     }
@@ -264,9 +282,9 @@ fn first_case(s: &[u8]) -> Option<(Case, &[u8])>
         map: &s[head..body],
         body: &s[body..tape],
         tape: &s[tape..end],
-        room: field(header, 5),
-        times: field(header, 11),
-        answer: field(header, 13),
+        room: usize::from(word(header, 5)),
+        times: usize::from(field(header, 11).unwrap_or(0)),
+        answer: usize::from(field(header, 13).unwrap_or(0)),
     };
     Some((case, &s[end..]))
 }

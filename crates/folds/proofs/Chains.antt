@@ -1,10 +1,10 @@
--- A test of every number below n, by a chain `(0..n).all(p)`. Assumes nothing.
-use Rattle.std.proofs.Common.{ℕ, ◌<◌, ◌≡◌, Bool, true, false, List, Option, length, get_or, refl, sym, ◌∙◌, arith, subst, zero-add}
+-- A test of every number below n, by a chain `(0..n).all(p)`, and what a fold over a range keeps. Assumes nothing.
+use Rattle.std.proofs.Common.{ℕ, ◌+◌, ◌<◌, ◌≡◌, Bool, true, false, List, [], ◌∷◌, Option, length, get_or, refl, sym, ◌∙◌, arith, subst, zero-add}
 use Rattle.std.specs.Bool.{MatchBool}
 use Rattle.std.specs.Option.{MatchOption}
 use Rattle.std.specs.Fn.{Called}
 use Rattle.std.specs.List.{FoldsTo, AllWithin, HoldsAt, range_with_len}
-use Rattle.std.specs.Iterator.{YieldsThen}
+use Rattle.std.specs.Iterator.{Yields, YieldsThen}
 use Rattle.std.specs.declared.ops.Range.{Range}
 use Rattle.std.proofs.iter.Yields.{nat_range_steps}
 use Rattle.std.proofs.lemmas.Iterator.{cases_from_all, YieldsList-from_range}
@@ -36,3 +36,13 @@ pub all_by_chain : {F : Type 0} {g : Mut F (ℕ × Unit {0}) Bool} {end : ℕ} {
     → r ≡ all_below n p
 all_by_chain {end} {u} {f} {r} n p ran e pass fail =
     told r n p (cases_from_all u f r (λ x. p x ≡ true) (λ x. p x ≡ false) ran (YieldsList-from_range 0 end n refl (omega arith)) pass fail)
+
+-- Where a fold over a range has come to, if each turn at i takes J i of the total to J (i + 1) and changes nothing that the closure captures.
+pub kept_over : {F B : Type 0} (R : F × B → ℕ → F × B → Type 0) {s t : Range ℕ} {f : F} {a : B} {q : F × B} {n : ℕ}
+    → (xs : List ℕ) → Yields nat_range_steps s xs t → FoldsTo R (f, a) xs q → s.end ≡ n
+    → (J : ℕ → B → Type 0) → J s.start a → ((i : ℕ) (a : B) (q : F × B) → i < n → J i a → R (f, a) i q → (q.0 ≡ f) × J (i + 1) q.1)
+    → (t.end ≡ n) × (q.0 ≡ f) × J t.start q.1
+kept_over {F} {B} R {f = f} {n = n} [] y c e J j turn = subst (λ (w : Range ℕ × (F × B)). (w.0.end ≡ n) × (w.1.0 ≡ f) × J w.0.start w.1.1) (λ i. (y i, c i)) (e, refl, j)
+kept_over R {s = s} {f = f} {a = a} {q = q} (x ∷ xs) (u, y, ys) (p, c, cs) e J j turn =
+    let m = turn s.start a p (omega (arith, y.1.0)) j (subst (λ i. R (f, a) i p) y.1.1 c) in
+    kept_over R xs ys (subst (λ w. FoldsTo R (w, p.1) xs q) m.0 cs) (y.0 ∙ e) J (subst (λ i. J i p.1) (sym y.1.2) m.1) turn

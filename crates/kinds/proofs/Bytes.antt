@@ -1,8 +1,10 @@
 -- Which kind a kind byte is. Assumes nothing.
-use Prim.Native.Nat.{ℕ, zero, suc}
+use Prim.Native.Nat.{ℕ, zero, suc, ◌<◌}
 use mathlib.Core.Path.{◌≡◌, refl}
 use mathlib.Core.Bool.{false}
-use Rattle.circuit.specs.Gate.{is_input, kind_of}
+use native.Mathlib.Omega.{arith}
+use Rattle.circuit.specs.declared.Kind.TheVariants.{Xor}
+use Rattle.circuit.specs.Gate.{last_kind, is_input, kind_of}
 
 pub gate_kind : (k : ℕ) → (k ≡ 0 → ⊥) → is_input (kind_of k) ≡ false
 gate_kind zero h = absurd (h refl)
@@ -10,3 +12,11 @@ gate_kind (suc zero) h = refl
 gate_kind (suc (suc zero)) h = refl
 gate_kind (suc (suc (suc zero))) h = refl
 gate_kind (suc (suc (suc (suc k)))) h = refl
+
+-- a byte above the last kind's counts as that
+pub past_last : (b : ℕ) → last_kind < b → Xor ≡ kind_of b
+past_last zero h = absurd (omega arith)
+past_last (suc zero) h = absurd (omega arith)
+past_last (suc (suc zero)) h = absurd (omega arith)
+past_last (suc (suc (suc zero))) h = absurd (omega arith)
+past_last (suc (suc (suc (suc b)))) h = refl

@@ -1,5 +1,5 @@
 -- What test 4 goes by; and for inner functions the fan-in of a kind that allows one alone, what a gate gives, by the number of its children at 1, and what its options turn, by place. Assumes nothing.
-use Rattle.std.specs.Prelude.{ℕ, ◌+◌, ◌≡◌, Bool, true, false, not, List, [], ◌∷◌, length, eqb, leb}
+use Rattle.std.specs.Prelude.{ℕ, ◌+◌, ◌≡◌, Bool, true, false, not, List, [], ◌∷◌, length, eqb, leb, Option, Some, None}
 use Rattle.folds.specs.Folds.{◌and◌}
 use Rattle.circuit.specs.Tools.{byte}
 use Rattle.circuit.specs.declared.Kind.{Kind}
@@ -10,13 +10,13 @@ use Rattle.circuit.specs.Gate.{last_kind, kind_of, fan_in_fits, gives}
 unfoldable pub kind_fits : ℕ → ℕ → Bool
 kind_fits k n = leb k last_kind and fan_in_fits (kind_of k) n
 
--- the fan-in of a kind that allows one alone, of 1 or 2; 0 for others
-abbrev pub only_fan_in : Kind → ℕ
-only_fan_in Input = 0
-only_fan_in Not = 1
-only_fan_in And = 0
-only_fan_in Or = 0
-only_fan_in Xor = 2
+-- the fan-in of a kind that allows one alone, of 1 or 2; none for an input and for kinds of several
+abbrev pub only_fan_in : Kind → Option ℕ
+only_fan_in Input = None
+only_fan_in Not = Some 1
+only_fan_in And = None
+only_fan_in Or = None
+only_fan_in Xor = Some 2
 
 -- how many of the values are 1
 abbrev pub count_on : List Bool → ℕ

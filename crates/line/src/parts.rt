@@ -5,6 +5,7 @@ ghost use Rattle.line.specs.Line.{most_input, run_line, input_test, line_of};
 use super::MOST_INPUT;
 use super::report::{Text, ran, refused};
 use map::{MOST_GATES, word};
+use state::Values;
 
 // Runs, with work and answer memory for every map.
 #[tactic(auto, using(crate::proofs::Lines::accepted_line, crate::proofs::Lines::refused_run))]
@@ -22,7 +23,11 @@ fn run(map: &[u8], configuration: &mut [u8], tape: &[u8]) -> Text
                 &mut work,
                 &mut answer,
             );
-            ran(outcome, accepted, &answer)
+            let values = Values {
+                map: accepted,
+                bytes: &answer,
+            };
+            ran(outcome, values)
         }
         Err(refusal) => refused(u8::from(refusal)),
     }
@@ -50,7 +55,9 @@ fn is_whole(input: &[u8]) -> bool
     if input.len() < 6 {
         return false;
     }
-    let bodies = word(input, 0) + word(input, 2) + word(input, 4);
+    let bodies = usize::from(word(input, 0))
+        + usize::from(word(input, 2))
+        + usize::from(word(input, 4));
     input.len() == 6 + bodies
 }
 
@@ -62,7 +69,7 @@ pub fn line_of(input: &[u8]) -> Text
     if !is_whole(input) {
         return refused(0);
     }
-    let a = 6 + word(input, 0);
-    let b = a + word(input, 2);
+    let a = 6 + usize::from(word(input, 0));
+    let b = a + usize::from(word(input, 2));
     run_on_copy(&input[6..a], &input[a..b], &input[b..])
 }

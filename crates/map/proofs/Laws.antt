@@ -12,8 +12,8 @@ use lib.ListN.{length, get_or, set, replicate}
 use lib.Seq.{get_or-set_same, get_or-set_other}
 use borrow.Author.Tests.{eqb-true, eqb-false, ltb-true, leb-true}
 use Rattle.folds.specs.Folds.{◌and◌, all_below}
-use Rattle.folds.proofs.Tests.{which, and_left, and_right, and_first_false, and_past}
-use Rattle.folds.proofs.Loops.{all_at, all_fails}
+use Rattle.folds.proofs.Tests.{which, and_left, and_right}
+use Rattle.folds.proofs.Loops.{all_at}
 use Rattle.circuit.specs.Tools.{byte}
 use Rattle.circuit.specs.Gate.{is_input, kind_of}
 use Rattle.circuit.specs.Circuit.{coded}
@@ -24,10 +24,6 @@ use Rattle.map.specs.Check.{offsets_test, position_test, positions_test, child_t
 use Rattle.map.specs.Inner.{Shaped, PlacesChildren, Placed, Sound, CodeMarks}
 
 -- ---- the sum of the fan-ins
-
-pub fans_none : (m : List ℕ) → 0 ≡ fan_ins_before m 0
-unfolding fan_ins_before
-fans_none m = refl
 
 pub fans_more : (m : List ℕ) (g : ℕ) → fan_ins_before m (g + 1) ≡ fan_ins_before m g + fan_in m g
 unfolding fan_ins_before
@@ -124,19 +120,6 @@ mark_some m marks x k h = marked (coded (circuit m) x) (λ q. h (k x ∙ q))
     marked : (b : Bool) → (byte b ≡ 0 → ⊥) → b ≡ true
     marked true q = refl
     marked false q = absurd (q refl)
-
--- ---- test 5, by the total that the code keeps
-
--- a gate at which it fails
-pub position_fails : (m : List ℕ) (g : ℕ) → g < gate_count m → position_test m g ≡ false → false ≡ positions_test m
-unfolding positions_test
-position_fails m g l h = sym (and_first_false _ _ (all_fails (position_test m) (gate_count m) g l h))
-
--- behind the last gate
-pub positions_done : (m : List ℕ) (g total children : ℕ) → g ≡ gate_count m → children ≡ child_count m → all_below g (position_test m) ≡ true → total ≡ fan_ins_before m g
-    → eqb total children ≡ positions_test m
-unfolding positions_test
-positions_done m g total children e c a t = rw (t, c, ← e) (sym (and_past _ _ a))
 
 -- ---- all tests
 

@@ -74,7 +74,7 @@ module _ (m : List ℕ) (g : ℕ) where
     | inr h ↦ rw h
   ]
 
-  stretch_within : stretch_place m g + stretch_length m g ≤ length m
+  pub stretch_within : stretch_place m g + stretch_length m g ≤ length m
   unfolding stretch_place stretch_length
   stretch_within = elim (which (has_gate m g)) [
     | inl h ↦ (let (v, l) = gate_of h in let p = (facts m v).sound.placed in rw h (omega (arith, p.within g l, p.shaped.long)))

@@ -43,11 +43,10 @@ pub record IsMap (m : List ℕ) : Type 0 where
   pub codes_ascend : (r : ℕ) → r + 1 < code_count m → code_gate m r < code_gate m (r + 1)
   pub code_values : (r : ℕ) → r < code_count m → code_value m r ≤ 1
 
--- number, kind, fan-in and first child position of a gate, as its record gives them
-pub record GateOf (m : List ℕ) (g : ℕ) (kind : Kind) (fan first : ℕ) : Type 0 where
+-- number, kind and first child position of a gate, as its record gives them
+pub record GateOf (m : List ℕ) (g : ℕ) (kind : Kind) (first : ℕ) : Type 0 where
   pub known : g < gate_count m
   pub kind_is : kind ≡ kind_of (kind_byte m g)
-  pub fan_is : fan ≡ fan_in m g
   pub first_is : first ≡ first_child m g
 
 -- x is child j of gate g, and it is below g

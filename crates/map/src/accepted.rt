@@ -1,4 +1,4 @@
-// An accepted map, and its gates. (A gate stays a number in the lent bytes: the format has it so, and no call allocates.)
+// An accepted map, and its gates. (A gate stays a number in the lent bytes: the format has it so, and no call allocates. `g < gates` and the like are clauses, as in `decode`.)
 ghost use Rattle.std.specs.Prelude.{◌≡◌, ◌+◌, ◌*◌, ◌<◌, ◌≤◌, length};
 ghost use Rattle.circuit.specs.Circuit.{Circuit};
 ghost use Rattle.circuit.specs.Evaluate.{inputs_before};
@@ -9,8 +9,9 @@ ghost use Rattle.map.specs.Inner.{ContentsOf, IsMap, GateOf, KidOf, CodeMarks};
 use super::decode::Table;
 use circuit::Kind;
 
-// A map that Check accepts, with the counts of its table of contents. It is made by `tests::accept` alone, once for each call.
-#[derive(Clone, Copy)]
+// A map that Check accepts, with the counts of its table of contents. It is made by `tests::accept` alone, once for each call. (Its fields are those of `Table`, and not a `Table`: every crate reads
+// `map.gates` and `map.bytes`, which would all be `map.table.gates` and `map.table.bytes`.)
+#[derive(Clone, Copy, Debug, PartialEq, Eq)]
 pub struct Map<'a> {
     pub bytes: &'a [u8],
     pub gates: usize,
@@ -33,13 +34,12 @@ impl<'a> Map<'a> {
         }
     }
 
-    // The kind of gate g. Its byte is a kind's, so any kind may stand for one that isn't: the last, with which the compiler needs no jump.
-    #[tactic(auto, using(crate::proofs::Facts::known_kind))]
+    // The kind of gate g.
     pub fn kind(self, g: usize) -> Kind
         requires { g < self.gates }
         ensures { result ≡ kind_of (kind_byte self.entry.bytes.now g) }
     {
-        Kind::try_from(self.bytes[12 + 4 * g]).unwrap_or(Kind::Xor)
+        self.table().kind(g)
     }
 
     // Gate g, its record read once: where a loop writes, the compiler would read it again each time, as it does not know that slices don't overlap.
@@ -52,22 +52,16 @@ impl<'a> Map<'a> {
         Gate {
             map: self,
             number: g,
-            kind: Kind::try_from(self.bytes[12 + 4 * g]).unwrap(),
-            fan: self.table().fan_in(g),
-            first: self.table().first_child(g),
+            kind: Kind::try_from(self.table().kind_byte(g)).unwrap(),
+            first: usize::from(self.table().first_child(g)),
         }
     }
 
     // The number of inputs.
-    #[tactic(auto, using(crate::proofs::Laws::inputs_none, crate::proofs::Laws::inputs_more))]
     pub fn inputs(self) -> usize
         ensures { (result ≡ inputs_before (circuit self.entry.bytes.now) (gate_count self.entry.bytes.now)) × (result ≤ self.entry.gates) }
     {
-        let mut count = 0;
-        for g in 0..self.gates {
-            count += usize::from(self.kind(g) == Kind::Input);
-        }
-        count
+        self.table().inputs()
     }
 
     // The gate of code r.
@@ -75,7 +69,7 @@ impl<'a> Map<'a> {
         requires { r < self.codes }
         ensures { (result ≡ code_gate self.entry.bytes.now r) × (result < self.entry.gates) }
     {
-        self.table().code_gate(r)
+        usize::from(self.table().code_gate(r))
     }
 
     // The value byte of code r.
@@ -86,7 +80,7 @@ impl<'a> Map<'a> {
         self.table().code_value(r)
     }
 
-    // Marks the coded gates with 1, in marks that are all 0.
+    // Marks the coded gates with 1, in marks that are all 0. (Their length is a clause: a struct round a `&mut` would owe its fact at every write.)
     #[tactic(auto, using(crate::proofs::Laws::marks_more))]
     pub fn mark_coded(self, marks: &mut [u8])
         requires { (self.gates ≤ length marks.old) × CodeMarks self.bytes.now 0 marks.old }
@@ -99,22 +93,28 @@ impl<'a> Map<'a> {
 }
 
 // A gate of an accepted map, with what its record says.
-#[derive(Clone, Copy)]
+#[derive(Clone, Copy, Debug, PartialEq, Eq)]
 pub struct Gate<'a> {
     pub map: Map<'a>,
     pub number: usize,
     pub kind: Kind,
-    pub fan: usize,
     pub first: usize,
-    pub ghost read: { GateOf map.bytes.now number kind fan first },
+    pub ghost read: { GateOf map.bytes.now number kind first },
 }
 
 impl Gate<'_> {
+    // Its fan-in. (Not a field: nobody asks it of a gate whose kind allows one alone, and a field is read all the same.)
+    pub fn fan(self) -> usize
+        ensures { result ≡ fan_in self.entry.map.bytes.now self.entry.number }
+    {
+        usize::from(self.map.table().fan_in(self.number))
+    }
+
     // Its child j.
     pub fn kid(self, j: usize) -> usize
-        requires { j < self.fan }
+        requires { j < fan_in self.map.bytes.now self.number }
         ensures { KidOf self.entry.map.bytes.now self.entry.number j result }
     {
-        self.map.table().any_child(self.first + j)
+        usize::from(self.map.table().any_child(self.first + j))
     }
 }

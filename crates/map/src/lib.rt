@@ -5,13 +5,14 @@ pub mod accepted;
 pub mod decode;
 mod tests;
 
-ghost use Rattle.std.specs.Prelude.{◌≡◌};
+ghost use Rattle.std.specs.Prelude.{◌≡◌, ◌+◌};
 ghost use Rattle.map.specs.Check.{check_answer, check_effect};
-ghost use Rattle.map.specs.Children.{children_answer, children_effect};
+ghost use Rattle.map.specs.Children.{children_answer, children_effect, stretch_place, stretch_length};
 
 pub use accepted::{Gate, Map};
 use circuit::Refusal;
 pub use decode::word;
+use std::ops::Range;
 pub use tests::accept;
 
 // A map has 1 to this many gates.
@@ -39,18 +40,27 @@ pub fn check(map: &[u8]) -> Result<Counts, Refusal>
     })
 }
 
-// The stretch of the map that holds a gate's children: empty for an input, a gate past the end or a map that Check refuses.
-#[tactic(auto, using(crate::proofs::Parts::no_map, crate::proofs::Parts::past_end, crate::proofs::Parts::has_gate_lem), unfolding(crate::specs::Children::children_answer, crate::specs::Children::children_effect, crate::specs::Children::stretch_place, crate::specs::Children::stretch_length))]
-pub fn children(map: &[u8], gate: usize) -> &[u8]
-    ensures { children_answer result ≡ children_effect map.entry gate }
+// Where in the map a gate's children stand: an empty range for an input, a gate past the end or a map that Check refuses.
+#[tactic(auto, using(crate::proofs::Parts::no_map, crate::proofs::Parts::past_end, crate::proofs::Parts::has_gate_lem), unfolding(crate::specs::Children::stretch_place, crate::specs::Children::stretch_length))]
+pub fn stretch(map: &[u8], gate: usize) -> Range<usize>
+    ensures start { result.start ≡ stretch_place map.now gate }
+    ensures end { result.end ≡ stretch_place map.now gate + stretch_length map.now gate }
 {
     let Ok(accepted) = accept(map) else {
-        return &map[0..0];
+        return 0..0;
     };
     if accepted.gates <= gate {
-        return &map[0..0];
+        return 0..0;
     }
     let record = accepted.gate(gate);
     let start = decode::child_place(accepted.gates, record.first);
-    &map[start..start + 2 * record.fan]
+    start..start + 2 * record.fan()
+}
+
+// The stretch of the map that holds a gate's children.
+#[tactic(auto, using(crate::proofs::Parts::stretch_within), unfolding(crate::specs::Children::children_answer, crate::specs::Children::children_effect))]
+pub fn children(map: &[u8], gate: usize) -> &[u8]
+    ensures { children_answer result ≡ children_effect map.entry gate }
+{
+    &map[stretch(map, gate)]
 }

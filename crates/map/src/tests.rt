@@ -1,4 +1,4 @@
-// The tests 1 to 7 of a map, each over all it concerns before the next.
+// The tests 1 to 7 of a map, each over all it concerns before the next. (`g < gates` and the like are clauses, as in `decode`.)
 ghost use Rattle.std.specs.Prelude.{◌≡◌, ◌+◌, ◌-◌, ◌<◌, ◌≤◌, length, eqb, ltb, MatchOption};
 ghost use Rattle.folds.specs.Folds.{◌or◌, all_below};
 ghost use Rattle.circuit.specs.Refusal.{number_given};
@@ -23,8 +23,8 @@ fn offsets_ok(bytes: &[u8], gates: usize, children: usize, codes: usize) -> bool
     let children_at = child_place(gates, 0);
     let codes_at = child_place(gates, children);
     word(bytes, 0) == 12
-        && word(bytes, 4) == children_at
-        && word(bytes, 8) == codes_at
+        && usize::from(word(bytes, 4)) == children_at
+        && usize::from(word(bytes, 8)) == codes_at
         && bytes.len() == codes_at + 4 * codes
 }
 
@@ -37,9 +37,9 @@ pub fn table(bytes: &[u8]) -> Result<Table<'_>, Refusal>
     if bytes.len() < 12 {
         return Err(Refusal::ShortMap);
     }
-    let gates = word(bytes, 2);
-    let children = word(bytes, 6);
-    let codes = word(bytes, 10);
+    let gates = usize::from(word(bytes, 2));
+    let children = usize::from(word(bytes, 6));
+    let codes = usize::from(word(bytes, 10));
     if gates == 0 || MOST_GATES < gates {
         return Err(Refusal::GateCount);
     }
@@ -58,7 +58,7 @@ pub fn table(bytes: &[u8]) -> Result<Table<'_>, Refusal>
 fn kinds_ok(map: Table) -> bool
     ensures { result ≡ all_below (gate_count map.entry.bytes.now) (kind_test map.entry.bytes.now) }
 {
-    (0..map.gates).all(|g| kinds::fits(map.bytes[12 + 4 * g], map.bytes[13 + 4 * g]))
+    (0..map.gates).all(|g| kinds::fits(map.kind_byte(g), map.fan_in(g)))
 }
 
 // Test 5 at gate g: the total for the next gate, if the position is right. The total that comes in is the sum of all fan-ins before gate g, and the one that goes out the sum before
@@ -69,26 +69,18 @@ fn position_at(map: Table, g: usize, total: usize) -> Option<usize>
     requires total_value { total ≡ fan_ins_before map.bytes.now g }
     ensures { TotalAfter map.entry.bytes.now g result }
 {
-    if map.first_child(g) == total {
-        Some(total + map.fan_in(g))
+    if usize::from(map.first_child(g)) == total {
+        Some(total + usize::from(map.fan_in(g)))
     } else {
         None
     }
 }
 
 // Test 5. One total is kept as the gates go by; after the last it must be the child count.
-#[tactic(auto, using(folds::proofs::Loops::loops, crate::proofs::Laws::fans_none, crate::proofs::Laws::position_fails, crate::proofs::Laws::positions_done))]
 fn positions_ok(map: Table) -> bool
     ensures { result ≡ positions_test map.entry.bytes.now }
 {
-    let mut total = 0;
-    for g in 0..map.gates {
-        let Some(next) = position_at(map, g, total) else {
-            return false;
-        };
-        total = next;
-    }
-    total == map.children
+    (0..map.gates).try_fold(0, |total, g| position_at(map, g, total)) == Some(map.children)
 }
 
 // Test 6 at child j of gate g.
@@ -98,7 +90,7 @@ fn child_ok(map: Placed, g: usize, j: usize) -> bool
     ensures { result ≡ child_test map.entry.table.bytes.now g j }
 {
     let x = map.child(g, j);
-    x < g && (j == 0 || map.child(g, j - 1) < x)
+    usize::from(x) < g && (j == 0 || map.child(g, j - 1) < x)
 }
 
 // Test 6 at gate g.
@@ -106,7 +98,7 @@ fn children_ok(map: Placed, g: usize) -> bool
     requires { g < map.table.gates }
     ensures { result ≡ children_test map.entry.table.bytes.now g }
 {
-    (0..map.table.fan_in(g)).all(|j| child_ok(map, g, j))
+    (0..usize::from(map.table.fan_in(g))).all(|j| child_ok(map, g, j))
 }
 
 // Test 6.
@@ -123,7 +115,7 @@ fn code_ok(map: Table, r: usize) -> bool
     ensures { result ≡ code_test map.entry.bytes.now r }
 {
     let x = map.code_gate(r);
-    x < map.gates
+    usize::from(x) < map.gates
         && (r == 0 || map.code_gate(r - 1) < x)
         && map.code_value(r) <= 1
         && map.code_zero(r) == 0

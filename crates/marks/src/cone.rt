@@ -6,10 +6,18 @@ ghost use Rattle.circuit.specs.Circuit.{on, justified};
 ghost use Rattle.circuit.specs.Survey.{reasons};
 ghost use Rattle.map.specs.Map.{code_count, circuit};
 ghost use Rattle.map.specs.Inner.{CodeMarks};
-ghost use Rattle.marks.specs.Marks.{MarksOf, ConeTurned, paint, to_one};
+ghost use Rattle.marks.specs.Marks.{cone_marks, MarksOf, ConeTurned, paint, to_one};
 
 use circuit::Kind;
 use state::Values;
+
+// Marks that are the cone and the front of a configuration.
+#[derive(Clone, Copy, Debug, PartialEq, Eq)]
+pub struct Marked<'a> {
+    pub s: Values<'a>,
+    pub marks: &'a [u8],
+    pub ghost are: { marks.now ≡ cone_marks (circuit s.map.bytes.now) s.bytes.now },
+}
 
 // The mark of a child that was b: 1 if it is relevant.
 fn child_mark(relevant: bool, b: u8) -> u8
@@ -38,13 +46,13 @@ fn mark_children(s: Values, g: usize, marks: &mut [u8])
     let gate = s.map.gate(g);
     let v = s.is_on(g);
     match kinds::only_fan_in(gate.kind) {
-        1 => mark_child(gate.kind, v, gate.kid(0), s, marks),
-        2 => {
+        Some(1) => mark_child(gate.kind, v, gate.kid(0), s, marks),
+        Some(2) => {
             mark_child(gate.kind, v, gate.kid(0), s, marks);
             mark_child(gate.kind, v, gate.kid(1), s, marks);
         }
         _ => {
-            for j in 0..gate.fan {
+            for j in 0..gate.fan() {
                 mark_child(gate.kind, v, gate.kid(j), s, marks);
             }
         }
@@ -75,7 +83,9 @@ fn pass(s: Values, marks: &mut [u8]) -> u16
 {
     let mut size = 0;
     for g in (0..s.map.gates).rev() {
-        size += u16::from(mark_gate(s, g, marks));
+        if mark_gate(s, g, marks) {
+            size += 1;
+        }
     }
     size
 }

@@ -35,7 +35,7 @@ fn mark_children(map: Map, g: usize, marks: &mut [u8])
     ensures { marks.new ≡ paint mark_below (kids_of map.entry.bytes.now g) marks.old }
 {
     let gate = map.gate(g);
-    for j in 0..gate.fan {
+    for j in 0..gate.fan() {
         let x = gate.kid(j);
         marks[x] = mark_below(marks[x]);
     }

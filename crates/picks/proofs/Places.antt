@@ -1,24 +1,15 @@
--- The numbers below n of which p holds, as `filter` gives them. Assumes nothing.
-use Rattle.std.proofs.Common.{ℕ, zero, suc, ◌+◌, ◌<◌, ◌≤◌, ◌≡◌, Bool, Option, None, Some, List, [], ◌∷◌, ◌++◌, length, map, map-id, get_or, take, sym, ap, refl, ◌∙◌, inl, inr, arith, add-one, add-zero}
+-- The numbers below n of which p holds: how many they are, and how a loop finds one of them. Assumes nothing.
+use Rattle.std.proofs.Common.{ℕ, zero, suc, ◌+◌, ◌<◌, ◌≤◌, ◌≡◌, Bool, true, false, List, [], ◌∷◌, ◌++◌, length, map, map-id, get_or, eqb, take, sym, ap, refl, ◌∙◌, inl, inr, arith, add-one, add-zero}
 use Rattle.std.proofs.Math.Seq.{take-length}
-use denote.Param.Members.{Mut}
-use denote.Ref.{Bor}
-use Rattle.std.specs.declared.iter.Filter.{Filter}
-use Rattle.std.specs.declared.ops.Range.{Range}
-use Rattle.std.specs.Fn.{CalledAt}
-use Rattle.std.specs.List.{filter, range_with_len, slice_get, count_by}
-use Rattle.std.specs.Option.{MatchOption, option_map}
-use Rattle.std.specs.Iterator.{YieldsThen}
-use Rattle.std.specs.Iterator.Adapters.{filter_source, filter_callee, filter_steps}
-use Rattle.std.proofs.iter.Yields.{nat_range_steps}
-use Rattle.std.proofs.lemmas.Iterator.{YieldsList-from_range}
-use Rattle.std.proofs.lemmas.Iterator.Consumers.{YieldsList-from_filter, nth_from_yields_List}
+use mir.Val.{bool_byte}
+use Rattle.std.specs.List.{range_with_len, count_by}
+use Rattle.std.proofs.lemmas.List.{get_or_default}
 use Rattle.std.proofs.lemmas.List.FromFn.{map-range_with_len_more}
 use Rattle.std.proofs.lemmas.List.Sums.{count_by_more_yes, count_by_more_no}
-use Rattle.std.proofs.lemmas.Option.{slice_get-get_or}
 use Rattle.folds.proofs.Tests.{which}
 use Rattle.circuit.specs.Tools.{up_to, select}
-use Rattle.circuit.proofs.Lists.{in_up_to, select_in, at_place, place_of, place_more}
+use Rattle.circuit.proofs.Lists.{in_up_to, select_same, place_of, place_more, table_at}
+use Rattle.picks.specs.Picks.{places_of, front_by, equal_to}
 
 pub range_is : (n : ℕ) → range_with_len 0 n ≡ up_to n
 range_is zero = refl
@@ -29,10 +20,6 @@ range_is (suc n) =
     ∙ ap (λ (l : List ℕ). l ++ n ∷ []) (map-id (range_with_len 0 n) ∙ range_is n)
 
 module _ (p : ℕ → Bool) where
-  taken : (r : Option ℕ) (n k : ℕ) → option_map (λ x. x) r ≡ slice_get (filter p (range_with_len 0 n)) k → r ≡ slice_get (select p (up_to n)) k
-  taken None n k e = rw (← range_is n) e
-  taken (Some x) n k e = rw (← range_is n) e
-
   -- how many items of a list it holds of, by their places
   counted : (xs : List ℕ) (n : ℕ) → n ≤ length xs → count_by p (take n xs) ≡ place_of (λ j. p (get_or xs j 0)) n
   counted xs zero h = refl
@@ -44,12 +31,31 @@ module _ (p : ℕ → Bool) where
   pub count_is : (xs : List ℕ) → count_by p xs ≡ length (select (λ j. p (get_or xs j 0)) (up_to (length xs)))
   count_is xs = rw take-length at (counted xs (length xs) (omega arith))
 
--- what `nth` answers of them
-pub nth_is : {p : ℕ → Bool} {F : Type 0} {s : Filter (Range ℕ) F} (u : Filter (Range ℕ) F) {g : Mut F (Bor ℕ × Unit {0}) Bool} {f : F} {n k : ℕ} {r : Option ℕ}
-    → ((xs : List ℕ) × YieldsThen (filter_steps nat_range_steps g) s xs r u × MatchOption r (length xs ≤ k) (λ _. length xs ≡ k))
-    → filter_source s ≡ record { start = 0; end = n } → filter_callee s ≡ f → ((x : ℕ) (b : Bool) (q : F) → CalledAt g f x b q → (q ≡ f) × (b ≡ p x))
-    → k < length (select p (up_to n)) → (r ≡ Some (get_or (select p (up_to n)) k 0)) × (get_or (select p (up_to n)) k 0 < n)
-nth_is {p} {F} {s} u {g} {f} {n} {k} {r} ran source closure calls l = (
-  taken p r n k (nth_from_yields_List r u k ran (YieldsList-from_filter g p (YieldsList-from_range 0 n n source (omega arith)) closure calls)) ∙ slice_get-get_or (select p (up_to n)) k 0 l,
-  in_up_to _ n (select_in p _ (up_to n) (at_place 0 (select p (up_to n)) k l)).0,
-)
+-- the places where numbers equal one, said by another default: none is read past the end
+places_by_0 : (w : List ℕ) (v : ℕ) → places_of eqb w v ≡ select (λ i. eqb (get_or w i 0) v) (up_to (length w))
+unfolding places_of
+places_by_0 w v = select_same _ _ (up_to (length w)) (λ i m. ap (λ x. eqb x v) (get_or_default w i v 0 (in_up_to i (length w) m)))
+
+pub places_front : (w : List ℕ) → places_of eqb w 3 ≡ front_by w
+unfolding front_by
+places_front w = places_by_0 w 3
+
+pub places_equal : (w : List ℕ) (v : ℕ) → places_of eqb w v ≡ equal_to w (length w) v
+unfolding equal_to
+places_equal w v = places_by_0 w v
+
+-- a loop that looks for place k: `left` are still to be passed at g, and `hit` is 1 where p holds of g
+module _ (p : ℕ → Bool) where
+  hit_is : (b : Bool) (hit left : ℕ) → hit ≡ bool_byte b → left < hit → (b ≡ true) × (left ≡ 0)
+  hit_is true hit left h l = (refl, omega arith)
+  hit_is false hit left h l = absurd (omega arith)
+
+  pub found_at : (n g k left hit : ℕ) → left + place_of p g ≡ k → hit ≡ bool_byte (p g) → left < hit → g < n → g ≡ get_or (select p (up_to n)) k 0
+  found_at n g k left hit e h l b =
+      let (q, z) = hit_is (p g) hit left h l in
+      let w : place_of p g ≡ k = omega arith in
+      sym (ap (λ (i : ℕ). get_or (select p (up_to n)) i 0) (sym w) ∙ ap (λ (l : List ℕ). get_or l (place_of p g) 0) (sym (map-id (select p (up_to n)))) ∙ table_at p (λ x. x) n g b q)
+
+  -- all are passed: none was left to look for
+  pub none_left_lem : (n k left : ℕ) → left + place_of p n ≡ k → k < length (select p (up_to n)) → ⊥
+  none_left_lem n k left e l = omega arith

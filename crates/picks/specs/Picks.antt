@@ -1,6 +1,10 @@
--- For inner functions: the front by its marks, and the best of some weights. Assumes nothing.
-use Rattle.std.specs.Prelude.{ℕ, ◌<◌, ◌≤◌, ◌≡◌, List, length, get_or, eqb, leb}
+-- For inner functions: the places of an item, the front by its marks, and the best of some weights. Assumes nothing.
+use Rattle.std.specs.Prelude.{ℕ, ◌<◌, ◌≤◌, ◌≡◌, Bool, List, length, get_or, eqb, leb}
 use Rattle.circuit.specs.Tools.{up_to, select, holds_of_all, pick}
+
+-- the places of those items that equal this one (also the default of the reads, as the type may have no 0; none is past the end)
+unfoldable pub places_of : {A : Type 0} → (A → A → Bool) → List A → A → List ℕ
+places_of eq items item = select (λ i. eq (get_or items i item) item) (up_to (length items))
 
 -- the gates that marks of cone and front show in the front, by rising number
 unfoldable pub front_by : List ℕ → List ℕ

@@ -2,6 +2,8 @@
 ghost use Rattle.std.specs.Prelude.{◌≡◌, ◌<◌, ◌≤◌, length, get_or};
 ghost use Rattle.picks.specs.Picks.{Least, equal_to, best_at};
 
+use crate::nth_place;
+
 // The smallest weight.
 fn least(weights: &[u16]) -> u16
     requires { 1 ≤ length weights.now }
@@ -18,14 +20,12 @@ fn ties(weights: &[u16], w: u16) -> usize
 }
 
 // The place of number k of those that are w.
+#[tactic(auto, using(crate::proofs::Places::places_equal))]
 fn place(weights: &[u16], w: u16, k: usize) -> usize
     requires { k < length (equal_to weights.now (length weights.now) w) }
     ensures { (result ≡ get_or (equal_to weights.now (length weights.now) w) k 0) × (result < length weights.now) }
 {
-    (0..weights.len())
-        .filter(|j| weights[*j] == w)
-        .nth(k)
-        .unwrap()
+    nth_place(weights, w, k)
 }
 
 // Of the places with the smallest weight, in rising order, the one at i modulo their number.

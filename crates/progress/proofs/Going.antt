@@ -21,7 +21,8 @@ use Rattle.circuit.specs.Run.{is_stuck, entry_chosen, move, RunResult, stop, aft
 use Rattle.circuit.proofs.Moves.{stuck_turns, some_turned, entry_does}
 use Rattle.circuit.proofs.Trace.{run_found, run_spent, run_sticks, run_step}
 use Rattle.tape.specs.Tape.{entry_at, entries_from, entries, tape_length_test}
-use Rattle.tape.specs.Inner.{step_at}
+use Rattle.tape.specs.declared.Tape.{Tape}
+use Rattle.tape.specs.Inner.{behind, step_at}
 use Rattle.progress.specs.Advance.{adds, Going, Ends}
 use Rattle.std.specs.Prelude.{Some, None}
 use Rattle.tape.proofs.Reading.{step_has, step_over}
@@ -120,20 +121,20 @@ module _ (c : Circuit) (start tape : List ℕ) where
         next_entry n q = ap (run c s) (next_is n q) ∙ run_step c s (entry_at tape at) (entries_from tape (at + 4) n) (front_some c s h) (turned_goes c ok s h (entry_at tape at) l)
 
 -- a run goes by what is read
-module _ (c : Circuit) (start tape : List ℕ) (at moves flips : ℕ) (s : List ℕ) (g : Going c start tape at moves flips s) where
-  module _ (ok : WellFormed c) (h : 1 ≤ front_size c s) (e : Entry) (next : ℕ) (q : step_at tape at ≡ Some (e, next)) where
-    has : (leb (at + 4) (length tape) ≡ true) × ((e ≡ entry_at tape at) × (next ≡ at + 4))
-    has = step_has tape at e next (sym q)
+module _ (c : Circuit) (start : List ℕ) (t : Tape) (moves flips : ℕ) (s : List ℕ) (g : Going c start t.src.now t.at moves flips s) where
+  module _ (ok : WellFormed c) (h : 1 ≤ front_size c s) (e : Entry) (next : Tape) (q : step_at t ≡ Some (e, next)) where
+    has : (leb (t.at + 4) (length t.src.now) ≡ true) × ((e ≡ entry_at t.src.now t.at) × (next ≡ behind t))
+    has = step_has t e next (sym q)
 
-    pub run_takes : 1 ≤ (move c s e).flips → Going c start tape next (moves + 1) (flips + (move c s e).flips) (move c s e).next
-    run_takes l = rw (has.1.1, has.1.0) (run_goes c start tape at moves flips s g ok h has.0 (rw has.1.0 at l))
+    pub run_takes : 1 ≤ (move c s e).flips → Going c start next.src.now next.at (moves + 1) (flips + (move c s e).flips) (move c s e).next
+    run_takes l = rw (has.1.1, has.1.0) (run_goes c start t.src.now t.at moves flips s g ok h has.0 (rw has.1.0 at l))
 
     -- an entry that turns nothing is stuck, and leaves the configuration as it was
-    pub run_stays : (move c s e).flips ≡ 0 → Ends c start tape (record { ending = Stuck; moves = moves; flips = flips }) s
-    run_stays z = run_blocked c start tape at moves flips s g ok h has.0 (rw has.1.0 at z)
+    pub run_stays : (move c s e).flips ≡ 0 → Ends c start t.src.now (record { ending = Stuck; moves = moves; flips = flips }) s
+    run_stays z = run_blocked c start t.src.now t.at moves flips s g ok h has.0 (rw has.1.0 at z)
 
     pub stays : (move c s e).flips ≡ 0 → (move c s e).next ≡ s
     stays z = (let d = entry_does c ok s (front_some c s h) e g.keeps in d.undone (d.none.0 z))
 
-  pub run_stops : 1 ≤ front_size c s → step_at tape at ≡ None → Ends c start tape (record { ending = Spent (front_size c s); moves = moves; flips = flips }) s
-  run_stops h q = run_spends c start tape at moves flips s g h (step_over tape at q)
+  pub run_stops : 1 ≤ front_size c s → step_at t ≡ None → Ends c start t.src.now (record { ending = Spent (front_size c s); moves = moves; flips = flips }) s
+  run_stops h q = run_spends c start t.src.now t.at moves flips s g h (step_over t q)

@@ -1,4 +1,5 @@
 // A run on an accepted map, step after step, in lent memory.
+// The lengths of what is written are clauses: a struct round a `&mut` would owe its fact at every write.
 #![tactic(auto)]
 
 ghost use Rattle.std.specs.Prelude.{◌≡◌, length};
@@ -12,10 +13,10 @@ use std::ops::ControlFlow;
 use steps::{Coded, Trial, step};
 use tape::Tape;
 
-// How far a run is: the place reached on the tape, what is done so far, and the size of the present front.
+// How far a run is: the tape with the place reached on it, what is done so far, and the size of the present front.
 #[derive(Clone, Copy, Debug, PartialEq, Eq)]
-pub struct Progress {
-    pub at: usize,
+pub struct Progress<'a> {
+    pub tape: Tape<'a>,
     pub moves: u16,
     pub flips: u32,
     pub front: u16,
@@ -24,29 +25,25 @@ pub struct Progress {
 // One step of a run that stands at p: it does the next entry and goes on from there, or it is over. An entry that turns nothing is stuck, and all is as it was. The marks are the cone and front
 // of s, before and after.
 #[tactic(auto, using(crate::proofs::Advancing::found_advances, crate::proofs::Advancing::stuck_advances, crate::proofs::Advancing::step_next, crate::proofs::Advancing::spent_advances, marks::proofs::Marked::marks_length))]
-pub fn advance(
-    tape: &[u8],
-    p: Progress,
+pub fn advance<'a>(
+    p: Progress<'a>,
     coded: Coded,
     s: &mut [u8],
     marks: &mut [u8],
     trial: &mut Trial,
-) -> ControlFlow<Ending, Progress>
+) -> ControlFlow<Ending, Progress<'a>>
     requires sized { coded.map.gates ≡ length s.old }
-    requires stands { Stands (circuit coded.map.bytes.now) tape.now p s.old marks.old }
-    ensures { Advances (circuit coded.entry.map.bytes.now) tape.now p s.old result s.new marks.new }
+    requires stands { Stands (circuit coded.map.bytes.now) p s.old marks.old }
+    ensures { Advances (circuit coded.entry.map.bytes.now) p.entry s.old result s.new marks.new }
 {
     if p.front == 0 {
         return ControlFlow::Break(Ending::Found);
     }
-    let reader = Tape {
-        src: tape,
-        at: p.at,
-    };
-    let Some((e, at)) = reader.read() else {
+    let Some((e, tape)) = p.tape.read() else {
         return ControlFlow::Break(Ending::Spent(p.front));
     };
     let report = step::entry(e, p.front, coded, marks, s, trial);
+    // (A count, and 0 is what stuck means: the report has no other sign, and an `Option` beside it would say the same twice.)
     if report.turned == 0 {
         return ControlFlow::Break(Ending::Stuck);
     }
@@ -55,7 +52,7 @@ pub fn advance(
         bytes: s,
     };
     ControlFlow::Continue(Progress {
-        at,
+        tape,
         moves: p.moves + 1,
         flips: p.flips + report.turned,
         front: step::settle(after, marks),
@@ -74,13 +71,13 @@ pub fn go(tape: &[u8], coded: Coded, s: &mut [u8], marks: &mut [u8], trial: &mut
         bytes: s,
     };
     let mut p = Progress {
-        at: 0,
+        tape: Tape { src: tape, at: 0 },
         moves: 0,
         flips: 0,
         front: cone::mark(start, marks),
     };
     loop {
-        match advance(tape, p, coded, s, marks, trial) {
+        match advance(p, coded, s, marks, trial) {
             ControlFlow::Continue(further) => p = further,
             ControlFlow::Break(ending) => {
                 return Outcome {

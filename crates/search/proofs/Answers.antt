@@ -1,5 +1,5 @@
 -- Move's answer, from its number. Assumes nothing.
-use Rattle.std.proofs.Common.{ℕ, ◌≡◌, ◌∙◌, sym, List, ◌++◌, drop, length, arith, eq-eqb, ne_eqb, Ok, Err, Some, None, true, false}
+use Rattle.std.proofs.Common.{ℕ, ◌≡◌, ◌∙◌, sym, ap, List, ◌++◌, drop, length, arith, eq-eqb, ne_eqb, Ok, Err, Some, None, true, false}
 use borrow.Author.Tests.{leb-false}
 use Rattle.circuit.specs.declared.Entry.{Entry}
 use Rattle.circuit.specs.declared.Refusal.{Refusal}
@@ -17,6 +17,7 @@ use Rattle.state.specs.State.{over}
 use Rattle.survey.specs.Survey.{start_tests}
 use Rattle.steps.specs.declared.MoveReport.{MoveReport}
 use Rattle.steps.specs.Steps.{DidEntry}
+use Rattle.tape.specs.declared.Tape.{Tape}
 use Rattle.tape.specs.Inner.{step_at}
 use Rattle.tape.specs.Tape.{entry_at}
 use Rattle.tape.proofs.Reading.{step_has, step_over}
@@ -41,17 +42,17 @@ module _ (m s entry work : List ℕ) where
       let e : front_test m s ≡ false = rw (front_none (circuit m) s z) in
       refused_by EmptyFront _ (sym (stop _ _ _ e))
 
-  -- an entry of 4 bytes is no end
-  pub entry_there : length entry ≡ 4 → step_at entry 0 ≡ None → move_answer (Err TapeLength) s work ≡ move_on_entry m s entry work
-  entry_there l q = absurd (omega (arith, leb-false 4 (length entry) (step_over entry 0 q)))
+  -- the reader at the start of an entry of 4 bytes is not at the end
+  pub entry_there : (t : Tape) → t.src.now ≡ entry → t.at ≡ 0 → length entry ≡ 4 → step_at t ≡ None → move_answer (Err TapeLength) s work ≡ move_on_entry m s entry work
+  entry_there t on start l q = absurd (omega (arith, start, ap length on, leb-false _ _ (step_over t q)))
 
   -- and the move
-  pub entry_done : (marks : List ℕ) (front : ℕ) (e : Entry) (n : ℕ) (t : MoveReport) (u w : List ℕ) → MarksOf (circuit m) s marks front → ¬ (front ≡ 0)
-      → step_at entry 0 ≡ Some (e, n) → DidEntry (circuit m) s e t u → w ≡ survey (circuit m) u ++ drop (gate_count m) work → move_answer (Ok t) u w ≡ move_on_entry m s entry work
+  pub entry_done : (marks : List ℕ) (front : ℕ) (t next : Tape) (e : Entry) (r : MoveReport) (u w : List ℕ) → MarksOf (circuit m) s marks front → ¬ (front ≡ 0) → t.src.now ≡ entry → t.at ≡ 0
+      → step_at t ≡ Some (e, next) → DidEntry (circuit m) s e r u → w ≡ survey (circuit m) u ++ drop (gate_count m) work → move_answer (Ok r) u w ≡ move_on_entry m s entry work
   unfolding move_on_entry front_test
-  entry_done marks front e n t u w are some read did written =
+  entry_done marks front t next e r u w are some on start read did written =
       let f : front_test m s ≡ true = rw (front_some (circuit m) s (omega (arith, are.front_is, some))) in
-      done_by _ t u w (past _ _ _ f ∙ no_test) (rw (step_has entry 0 e n (sym read)).1.0 at did) (rw survey_length written)
+      done_by _ r u w (past _ _ _ f ∙ no_test) (rw ((step_has t e next (sym read)).1.0, on, start) at did) (rw survey_length written)
 
   -- behind the tests 9 to 14
   pub early_refused : (e : Refusal) → number_of e ≡ first_failed (start_tests m s ++ entry_tests m entry work) → move_answer (Err e) s work ≡ move_on_map m s entry work

@@ -1,5 +1,5 @@
 -- What its children give a gate, by how many of them are at 1, and whether it is justified. Assumes nothing.
-use Rattle.std.proofs.Common.{ℕ, ◌+◌, ◌≤◌, ◌<◌, ◌≡◌, Bool, true, false, List, [], ◌∷◌, map, length, refl, sym, ap, ◌∙◌, zero-add, arith}
+use Rattle.std.proofs.Common.{ℕ, Option, Some, ◌+◌, ◌<◌, ◌≡◌, Bool, true, false, List, [], ◌∷◌, map, length, refl, sym, ap, ◌∙◌, zero-add, arith}
 use Rattle.std.proofs.Math.Bool.{beq}
 use Rattle.std.proofs.lemmas.List.{length-map}
 use mir.Val.{bool_byte}
@@ -30,41 +30,43 @@ given_count m s g v h = h (map (on s) (kids_of m g)) (length-map (kids_of m g) (
     map_map (x ∷ xs) = ap (λ (l : List Bool). on s (child_at m g x) ∷ l) (map_map xs)
 
 -- the fan-in of a gate whose kind allows one alone
-pub fan_known : (m : List ℕ) (g f p n : ℕ) (k : Kind) → GateOf m g k f p → IsMap m → n ≡ only_fan_in k → 1 ≤ n → f ≡ n
+pub fan_known : (m : List ℕ) (g p q r : ℕ) (k : Kind) (o : Option ℕ) → GateOf m g k p → IsMap m → o ≡ only_fan_in k → o ≡ Some q → q ≡ r → fan_in m g ≡ r
 unfolding kind_test
-fan_known m g f p n k d a o l = d.fan_is ∙ only_fan (kind_byte m g) (fan_in m g) n (a.kinds g d.known) (sym (rw d.kind_is at o)) l
+fan_known m g p q r k o d a e i t = only_fan (kind_byte m g) (fan_in m g) q (a.kinds g d.known) (sym (rw d.kind_is at e) ∙ i) ∙ t
 
-pub kid_known : (m : List ℕ) (g f p n r j : ℕ) (k : Kind) → GateOf m g k f p → IsMap m → n ≡ only_fan_in k → n ≡ r → j < r → j < f
-kid_known m g f p n r j k d a o q l = omega (arith, fan_known m g f p n k d a o (omega arith))
+pub kid_known : (m : List ℕ) (g p q r j : ℕ) (k : Kind) (o : Option ℕ) → GateOf m g k p → IsMap m → o ≡ only_fan_in k → o ≡ Some q → q ≡ r → j < r → j < fan_in m g
+kid_known m g p q r j k o d a e i t l = omega (arith, fan_known m g p q r k o d a e i t)
 
 -- a gate as it was read, by how many of its children are at 1
 module _ (x : Gate) (map : Map) (g : ℕ) (e : (x.map ≡ map) × (x.number ≡ g)) (s : List ℕ) (v : Bool) where
-  read : GateOf map.bytes.now g x.kind x.fan x.first
+  read : GateOf map.bytes.now g x.kind x.first
   read = rw (← e.0, ← e.1) x.read
 
   abbrev on_at : ℕ → Bool
   on_at j = on s (child_at map.bytes.now g j)
 
-  pub given_any : (n : ℕ) → n ≡ length (select on_at (up_to (fan_in map.bytes.now g))) → GivesBy x.kind x.fan n v → v ≡ given (circuit map.bytes.now) s g
-  given_any n q h = given_count map.bytes.now s g v (rw (← q, ← read.kind_is, ← read.fan_is) h)
+  pub given_any : (n f : ℕ) → n ≡ length (select on_at (up_to (fan_in map.bytes.now g))) → f ≡ fan_in x.map.bytes.now x.number → GivesBy x.kind f n v → v ≡ given (circuit map.bytes.now) s g
+  given_any n f q w h =
+      let z : f ≡ fan_in map.bytes.now g = rw (e.0, e.1) at w in
+      given_count map.bytes.now s g v (rw (← q, ← read.kind_is, ← z) h)
 
   bit : (j k a : ℕ) (b : Bool) → KidOf x.map.bytes.now x.number j k → b ≡ on s k → a ≡ bool_byte b → a ≡ byte (on_at j)
   bit j k a b d o q = q ∙ bit_is b ∙ ap byte (rw (d.is, e.0, e.1) at o)
 
-  fan : (n r : ℕ) → n ≡ only_fan_in x.kind → n ≡ r → 1 ≤ r → fan_in map.bytes.now g ≡ r
-  fan n r o q l = sym read.fan_is ∙ fan_known x.map.bytes.now x.number x.fan x.first n x.kind x.read x.map.is o (omega arith) ∙ q
+  fan : (o : Option ℕ) (q r : ℕ) → o ≡ only_fan_in x.kind → o ≡ Some q → q ≡ r → fan_in map.bytes.now g ≡ r
+  fan o q r w i t = fan_known map.bytes.now g x.first q r x.kind o read map.is w i t
 
-  pub given_one : (n k a : ℕ) (b : Bool) → n ≡ only_fan_in x.kind → n ≡ 1 → KidOf x.map.bytes.now x.number 0 k → b ≡ on s k → a ≡ bool_byte b → GivesBy x.kind 1 a v
-      → v ≡ given (circuit map.bytes.now) s g
-  given_one n k a b o q d w z h =
-      let f = fan n 1 o q (omega arith) in
-      given_any a (rw (f, place_more on_at 0, zero-add _) (bit 0 k a b d w z)) (rw (read.fan_is, f) h)
+  pub given_one : (o : Option ℕ) (q k a : ℕ) (b : Bool) → o ≡ only_fan_in x.kind → o ≡ Some q → q ≡ 1 → KidOf x.map.bytes.now x.number 0 k → b ≡ on s k → a ≡ bool_byte b
+      → GivesBy x.kind 1 a v → v ≡ given (circuit map.bytes.now) s g
+  given_one o q k a b y i t d w z h =
+      let f = fan o q 1 y i t in
+      given_any a 1 (rw (f, place_more on_at 0, zero-add _) (bit 0 k a b d w z)) (rw (e.0, e.1) (sym f)) h
 
-  pub given_two : (n k a l c : ℕ) (b d : Bool) → n ≡ only_fan_in x.kind → n ≡ 2 → KidOf x.map.bytes.now x.number 0 k → b ≡ on s k → a ≡ bool_byte b
+  pub given_two : (o : Option ℕ) (q k a l c : ℕ) (b d : Bool) → o ≡ only_fan_in x.kind → o ≡ Some q → q ≡ 2 → KidOf x.map.bytes.now x.number 0 k → b ≡ on s k → a ≡ bool_byte b
       → KidOf x.map.bytes.now x.number 1 l → d ≡ on s l → c ≡ bool_byte d → GivesBy x.kind 2 (a + c) v → v ≡ given (circuit map.bytes.now) s g
-  given_two n k a l c b d o q k0 w z k1 y t h =
-      let f = fan n 2 o q (omega arith) in
-      given_any (a + c) (rw (f, place_more on_at 1, place_more on_at 0, zero-add _, ← bit 0 k a b k0 w z, ← bit 1 l c d k1 y t)) (rw (read.fan_is, f) h)
+  given_two o q k a l c b d y i r k0 w z k1 u t h =
+      let f = fan o q 2 y i r in
+      given_any (a + c) 2 (rw (f, place_more on_at 1, place_more on_at 0, zero-add _, ← bit 0 k a b k0 w z, ← bit 1 l c d k1 u t)) (rw (e.0, e.1) (sym f)) h
 
 pub beq_same : (a b : Bool) → beq a b ≡ same a b
 beq_same true true = refl

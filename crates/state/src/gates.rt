@@ -1,4 +1,4 @@
-// The values of a map's gates, and what their children give them.
+// The values of a map's gates, and what their children give them. (`g < gates` is a clause: it is the range of an index.)
 ghost use Rattle.std.specs.Prelude.{◌≡◌, ◌<◌, ◌≤◌, length};
 ghost use Rattle.circuit.specs.Tools.{up_to, select};
 ghost use Rattle.circuit.specs.Circuit.{on, given, justified};
@@ -8,7 +8,7 @@ use circuit::Kind;
 use map::Map;
 
 // A byte for each gate of a map: a configuration, or one that is being written.
-#[derive(Clone, Copy)]
+#[derive(Clone, Copy, Debug, PartialEq, Eq)]
 pub struct Values<'a> {
     pub map: Map<'a>,
     pub bytes: &'a [u8],
@@ -24,7 +24,7 @@ impl Values<'_> {
         self.bytes[g] == 1
     }
 
-    // How many children of gate g are at 1.
+    // How many children of gate g are at 1. (By a sum: `filter` and `count` take a jump by each child's value.)
     fn ones(self, g: usize) -> usize
         requires { g < self.map.gates }
         ensures { (result ≡ length (select (λ j. on self.entry.bytes.now (child_at self.entry.map.bytes.now g j)) (up_to (fan_in self.entry.map.bytes.now g))))
@@ -32,7 +32,7 @@ impl Values<'_> {
     {
         let gate = self.map.gate(g);
         let mut count = 0;
-        for j in 0..gate.fan {
+        for j in 0..gate.fan() {
             count += usize::from(self.is_on(gate.kid(j)));
         }
         count
@@ -45,13 +45,13 @@ impl Values<'_> {
     {
         let gate = self.map.gate(g);
         match kinds::only_fan_in(gate.kind) {
-            1 => kinds::gives(gate.kind, 1, usize::from(self.is_on(gate.kid(0)))),
-            2 => {
+            Some(1) => kinds::gives(gate.kind, 1, usize::from(self.is_on(gate.kid(0)))),
+            Some(2) => {
                 let ones = usize::from(self.is_on(gate.kid(0)))
                     + usize::from(self.is_on(gate.kid(1)));
                 kinds::gives(gate.kind, 2, ones)
             }
-            _ => kinds::gives(gate.kind, gate.fan, self.ones(g)),
+            _ => kinds::gives(gate.kind, gate.fan(), self.ones(g)),
         }
     }
 

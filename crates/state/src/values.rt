@@ -57,7 +57,7 @@ fn gate_value(s: Values, g: usize, row: &[u8], at: usize) -> u8
     }
 }
 
-// Writes the values, in rising order.
+// Writes the values, in rising order. (The length of `out` is a clause: a struct round a `&mut` would owe its fact at every write.)
 fn fill(map: Map, row: &[u8], out: &mut [u8])
     requires row_tested { RowTested map.bytes.now row.now }
     requires room { length out.old ≡ map.gates }

@@ -64,14 +64,14 @@ module _ (m s : List ℕ) (g i : ℕ) where
 
 -- the turn of the loop over a gate's children
 pub flips_next : (x : Gate) (i j k turned bit : ℕ) (b : Bool) (s now next : List ℕ) → Flipped (option_up_to x.map.bytes.now s x.number i j) s now turned
-    → j < x.fan → KidOf x.map.bytes.now x.number j k
+    → j < fan_in x.map.bytes.now x.number → KidOf x.map.bytes.now x.number j k
     → (next ≡ cond (option_turns x.kind (on s x.number) i j (on now k)) (turn (k ∷ []) now) now) × (b ≡ option_turns x.kind (on s x.number) i j (on now k)) → bit ≡ bool_byte b
     → Flipped (option_up_to x.map.bytes.now s x.number i (j + 1)) s next (turned + bit)
 flips_next x i j k turned bit b s now next f l d h q =
     let m = x.map.bytes.now in
     let g = x.number in
-    let t : option_turns x.kind (on s g) i j (on now k) ≡ option_has m s g i j = rw (x.read.kind_is, d.is, f.are) (flips_sees m s g i x.map.is x.read.known j (omega (arith, x.read.fan_is))) in
+    let t : option_turns x.kind (on s g) i j (on now k) ≡ option_has m s g i j = rw (x.read.kind_is, d.is, f.are) (flips_sees m s g i x.map.is x.read.known j l) in
     record {
-      are = h.0 ∙ rw (t, d.is, f.are) (flips_more m s g i x.map.is x.read.known j (omega (arith, x.read.fan_is)));
+      are = h.0 ∙ rw (t, d.is, f.are) (flips_more m s g i x.map.is x.read.known j l);
       counted = omega (arith, flips_count m s g i j, q ∙ bit_is b ∙ ap byte (h.1 ∙ t), f.counted);
     }

@@ -7,7 +7,7 @@ use map::Gate;
 use state::Values;
 
 // An unjustified gate of a configuration, its record read once, beside the marks of the map's codes.
-#[derive(Clone, Copy)]
+#[derive(Clone, Copy, Debug, PartialEq, Eq)]
 pub struct Drawn<'a> {
     pub gate: Gate<'a>,
     pub coded: Coded<'a>,

@@ -2,7 +2,7 @@
 ghost use Rattle.std.specs.Prelude.{◌≡◌, ◌<◌};
 ghost use Rattle.circuit.specs.Run.{chosen};
 ghost use Rattle.circuit.specs.declared.Choice.TheVariants.{Down};
-ghost use Rattle.map.specs.Map.{circuit};
+ghost use Rattle.map.specs.Map.{fan_in, circuit};
 ghost use Rattle.steps.specs.Options.{child_allowed, option_left, left_of, sought_chosen};
 
 use super::{Drawn, MOST_OPTIONS, options};
@@ -11,7 +11,7 @@ use arrayvec::ArrayVec;
 // May option i have child j of the gate? It must not turn a coded one.
 #[tactic(auto, using(folds::proofs::Tests::bools), unfolding(crate::specs::Options::child_allowed, crate::specs::Options::option_has))]
 fn child_allowed(drawn: Drawn, i: usize, j: usize) -> bool
-    requires { j < drawn.gate.fan }
+    requires { j < fan_in drawn.gate.map.bytes.now drawn.gate.number }
     ensures { result ≡ child_allowed drawn.entry.s.map.bytes.now drawn.entry.s.bytes.now drawn.entry.gate.number i j }
 {
     let gate = drawn.gate;
@@ -24,10 +24,10 @@ fn child_allowed(drawn: Drawn, i: usize, j: usize) -> bool
 fn is_left(drawn: Drawn, i: usize) -> bool
     ensures { result ≡ option_left drawn.entry.s.map.bytes.now drawn.entry.s.bytes.now drawn.entry.gate.number i }
 {
-    (0..drawn.gate.fan).all(|j| child_allowed(drawn, i, j))
+    (0..drawn.gate.fan()).all(|j| child_allowed(drawn, i, j))
 }
 
-// Lists the options of the gate that are left.
+// Lists the options of the gate that are left. (By `push`: `collect` wants an allocator, and gives a Result to unwrap.)
 #[tactic(auto, using(crate::proofs::Listed::list_none, crate::proofs::Listed::list_left, crate::proofs::Listed::list_not_left, crate::proofs::Listed::few_drawn))]
 pub fn list(drawn: Drawn) -> ArrayVec<usize, MOST_OPTIONS>
     ensures { result.items ≡ left_of drawn.entry.s.map.bytes.now drawn.entry.s.bytes.now drawn.entry.gate.number }

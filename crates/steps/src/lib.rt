@@ -14,7 +14,7 @@ pub use memory::{Coded, Trial};
 // An unjustified gate has at most so many options.
 const MOST_OPTIONS: usize = 8;
 
-// The gate that an entry drew, and how many values it turned: 0 where it is stuck.
+// The gate that an entry drew, and how many values it turned: 0 where it is stuck. (No Option: a count of 0 is what stuck means, and what the calls promise.)
 #[derive(Clone, Copy, Debug, PartialEq, Eq)]
 pub struct MoveReport {
     pub gate: usize,

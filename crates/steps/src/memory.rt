@@ -5,8 +5,8 @@ ghost use Rattle.map.specs.Inner.{CodeMarks};
 
 use map::{MOST_GATES, Map};
 
-// The marks of a map's codes: 1 for each coded gate, else 0.
-#[derive(Clone, Copy)]
+// The marks of a map's codes: 1 for each coded gate, else 0. (They are lent: an array of its own would be copied wherever it goes.)
+#[derive(Clone, Copy, Debug, PartialEq, Eq)]
 pub struct Coded<'a> {
     pub map: Map<'a>,
     pub marks: &'a [u8],
@@ -25,7 +25,7 @@ impl Coded<'_> {
 }
 
 // Memory to weigh options in: a configuration to try, and the marks of its survey. What stands there is overwritten before it is read.
-#[derive(Drop)]
+#[derive(Drop, Debug, PartialEq, Eq)]
 pub struct Trial {
     pub values: [u8; MOST_GATES],
     pub marks: [u8; MOST_GATES],

@@ -1,4 +1,4 @@
-// How many options a gate has, and turning the gates of one.
+// How many options a gate has, and turning the gates of one. (`x < length s` is a clause: it is the range of an index. A value is read by `== 1`, as s is written: a `Values` of it would be made for each read.)
 ghost use Rattle.std.specs.Prelude.{◌≡◌, [], ◌∷◌, cond, ◌<◌, ◌≤◌, length};
 ghost use Rattle.circuit.specs.Circuit.{on};
 ghost use Rattle.circuit.specs.Run.{turn};
@@ -38,7 +38,7 @@ pub fn count(drawn: Drawn) -> usize
     ensures { result ≡ option_count_of drawn.entry.s.map.bytes.now drawn.entry.s.bytes.now drawn.entry.gate.number }
 {
     let gate = drawn.gate;
-    kinds::options(gate.kind, drawn.s.is_on(gate.number), gate.fan)
+    kinds::options(gate.kind, drawn.s.is_on(gate.number), gate.fan())
 }
 
 // Turns the gates of option i of a gate. Returns how many.
@@ -48,7 +48,7 @@ pub fn flip_option(gate: Gate, i: usize, s: &mut [u8]) -> u32
 {
     let v = s[gate.number] == 1;
     let mut turned = 0;
-    for j in 0..gate.fan {
+    for j in 0..gate.fan() {
         turned += u32::from(flip_child(gate.kind, v, i, j, gate.kid(j), s));
     }
     turned

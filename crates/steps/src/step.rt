@@ -1,4 +1,4 @@
-// What an entry does. (The configuration is written, so it stays a slice beside what is read: a struct round a `&mut` would owe its fact at every write, and save one clause.)
+// What an entry does. (The configuration is written, so it is a slice beside what is read: a struct round a `&mut` would owe its fact at every write, and save one clause.)
 ghost use Rattle.std.specs.Prelude.{◌≡◌, cond, [], ◌∷◌, ◌<◌, ◌≤◌, length, get_or, eqb};
 ghost use Rattle.circuit.specs.declared.Choice.TheVariants.{Down, Up};
 ghost use Rattle.circuit.specs.Run.{chosen, turned_by};
@@ -59,7 +59,7 @@ fn up(g: usize, i: u8, coded: Coded, s: &mut [u8]) -> u32
     down(g, i, coded, s)
 }
 
-// Turns what a choice says where gate g is drawn. Returns how many values: 0 where it is stuck.
+// Turns what a choice says where gate g is drawn. Returns how many values: 0 where it is stuck. (A `match`: document 01 wants each move to decide by its case.)
 fn turn_chosen(g: usize, choice: Choice, coded: Coded, s: &mut [u8], trial: &mut Trial) -> u32
     requires { Drawable coded.map.bytes.now coded.map.gates s.old g × (coded.map.gates ≡ length s.old) }
     ensures { Flipped (turned_by g (chosen (circuit coded.entry.map.bytes.now) s.old g choice)) s.old s.new result }

@@ -1,8 +1,13 @@
 -- For inner functions: a step along a tape. Assumes nothing.
-use Rattle.std.specs.Prelude.{ℕ, ◌+◌, cond, List, length, leb, Option, Some, None}
+use Rattle.std.specs.Prelude.{◌+◌, cond, length, leb, Option, Some, None}
 use Rattle.circuit.specs.declared.Entry.{Entry}
+use Rattle.tape.specs.declared.Tape.{Tape}
 use Rattle.tape.specs.Tape.{entry_at}
 
--- the entry at a place with the place four on, or none where fewer than four bytes are left
-unfoldable pub step_at : List ℕ → ℕ → Option (Entry × ℕ)
-step_at t at = cond (leb (at + 4) (length t)) (Some (entry_at t at, at + 4)) None
+-- the reader behind the entry at the place reached
+abbrev pub behind : Tape → Tape
+behind t = record { src = t.src; at = t.at + 4 }
+
+-- that entry with the reader behind it, or none where fewer than four bytes are left
+unfoldable pub step_at : Tape → Option (Entry × Tape)
+step_at t = cond (leb (t.at + 4) (length t.src.now)) (Some (entry_at t.src.now t.at, behind t)) None

@@ -18,18 +18,23 @@ pub struct Tape<'a> {
 }
 
 impl Tape<'_> {
-    // The entry at the place reached with the place behind it, or none at the end of the tape. The place moves on by four.
+    // The entry at the place reached with the reader behind it, or none at the end of the tape. The place moves on by four.
     #[tactic(auto, unfolding(crate::specs::Inner::step_at))]
-    pub fn read(self) -> Option<(Entry, usize)>
-        ensures { result ≡ step_at self.entry.src.now self.entry.at }
+    pub fn read(self) -> Option<(Entry, Self)>
+        ensures { result ≡ step_at self.entry }
     {
         if self.src.len() < 4 || self.src.len() - 4 < self.at {
             return None;
         }
-        Some((entry_at(self.src, self.at), self.at + 4))
+        let behind = Tape {
+            src: self.src,
+            at: self.at + 4,
+        };
+        Some((entry_at(self.src, self.at), behind))
     }
 }
 
+// The choice of an entry's kind byte and option byte. (A byte: this makes the enum of it, behind test 13.)
 fn choice_of(kind: u8, option: u8) -> Choice
     ensures { result ≡ choice_of kind option }
 {
@@ -47,7 +52,7 @@ fn entry_at(tape: &[u8], at: usize) -> Entry
     ensures { result ≡ entry_at tape.now at }
 {
     Entry {
-        draw: map::word(tape, at) as u16,
+        draw: map::word(tape, at),
         choice: choice_of(tape[at + 2], tape[at + 3]),
     }
 }
@@ -61,14 +66,8 @@ pub fn length_ok(tape: &[u8]) -> bool
 }
 
 // Test 13.
-#[tactic(auto, using(folds::proofs::Loops::loops, crate::proofs::KindLoop::kind_above), unfolding(crate::specs::Tape::entry_kinds_test))]
 pub fn kinds_ok(tape: &[u8]) -> bool
     ensures { result ≡ entry_kinds_test tape.now }
 {
-    for i in 0..tape.len() / 4 {
-        if 2 < tape[4 * i + 2] {
-            return false;
-        }
-    }
-    true
+    (0..tape.len() / 4).all(|i| tape[4 * i + 2] <= 2)
 }

@@ -7,4 +7,4 @@ use Rattle.state.proofs.Filling.{filled}
 use Rattle.answer.proofs.write.Given as goal
 
 abbrev pub invariant-loop-g : goal.invariant-loop-g
-invariant-loop-g l = l.out ≡ filled (circuit l.fn.s.map.bytes.now) (λ x. cone (circuit l.fn.s.map.bytes.now) l.fn.s.bytes.now x and on l.fn.s.bytes.now x) l.initial.out l.g
+invariant-loop-g l = l.out ≡ filled (circuit l.fn.marked.s.map.bytes.now) (λ x. cone (circuit l.fn.marked.s.map.bytes.now) l.fn.marked.s.bytes.now x and on l.fn.marked.s.bytes.now x) l.initial.out l.g

@@ -1,7 +1,7 @@
-use Rattle.std.proofs.Common.{◌∙◌, sym, arith}
+use Rattle.std.proofs.Common.{◌∙◌, sym, refl, arith}
 use Rattle.search.proofs.Answers.{entry_done}
 use Rattle.search.proofs.moving.move_within.Goals as goal
 
 pub returns : goal.returns
 returns c =
-    entry_done _ _ _ _ _ _ _ _ _ _ _ c.mark-front.ensures (omega arith) (sym c.read.ensures ∙ c.in-Some.is) c.entry-report.ensures (rw (c.write.ensures.are, c.args.coded.map.contents.gates_is))
+    entry_done _ _ _ _ _ _ _ _ _ _ _ _ c.mark-front.ensures (omega arith) refl refl (sym c.read.ensures ∙ c.in-Some.is) c.entry-report.ensures (rw (c.write.ensures.are, c.args.coded.map.contents.gates_is))

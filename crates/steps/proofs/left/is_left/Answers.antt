@@ -1,4 +1,4 @@
-use Rattle.std.proofs.Common.{rules}
+use Rattle.std.proofs.Common.{◌∙◌, rules}
 use Rattle.folds.proofs.Chains.{all_by_chain}
 use Rattle.steps.specs.Options.{child_allowed, option_left}
 use Rattle.steps.proofs.left.is_left.Goals as goal
@@ -7,4 +7,4 @@ pub returns : goal.returns
 unfolding option_left
 returns c =
     all_by_chain _ (child_allowed c.args.drawn.s.map.bytes.now c.args.drawn.s.bytes.now c.args.drawn.gate.number c.args.i) c.all.ensures.ran
-    (rw c.args.drawn.one_map.0 at c.args.drawn.gate.read.fan_is) (λ x q k. search rules) (λ x q k. search rules)
+    (c.fan.ensures ∙ rw c.args.drawn.one_map.0) (λ x q k. search rules) (λ x q k. search rules)
