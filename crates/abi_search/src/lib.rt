@@ -1,4 +1,4 @@
-// Move and Run for hosts in C and Rust, as `abi_state` has its calls. (A u32 becomes a usize by `as`: there is no `From` for it.)
+// Move and Run for hosts in C and Rust, as `abi_state` has its calls. (A u32 becomes a usize by `as`: there is no `From` for it, and a `try_from` would have a failure to rule out.)
 #![tactic(auto)]
 
 ghost use Rattle.std.specs.Prelude.{◌≡◌, [], ◌∷◌};

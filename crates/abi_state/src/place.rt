@@ -18,16 +18,15 @@ fn put(numbers: &mut [usize], i: usize, x: usize)
     }
 }
 
-// Puts the numbers of an answer into the first places, as many as there are. Returns 0, the number of an accepted call. (One by one: `copy_from_slice` asks the C library for memcpy, and
+// Puts the numbers of an answer into the first places, as many as there are. (One by one: `copy_from_slice` asks the C library for memcpy, and
 // the archives ask it for memset alone.)
 #[tactic(auto, using(crate::proofs::Places::placed_none, crate::proofs::Places::placed_next))]
-pub fn place(numbers: &mut [usize], answer: &[usize]) -> u8
-    ensures { (result ≡ 0) × (numbers.new ≡ placed answer.now numbers.old) }
+pub fn place(numbers: &mut [usize], answer: &[usize])
+    ensures { numbers.new ≡ placed answer.now numbers.old }
 {
     for (i, number) in answer.iter().enumerate() {
         put(numbers, i, *number);
     }
-    0
 }
 
 // Tells a host the answer of a call: puts its numbers where they belong and returns 0, or returns the number that the call is refused with.
@@ -37,7 +36,10 @@ pub fn tell<const N: usize>(numbers: &mut [usize], answer: Result<Numbers<N>, Re
         (λ refusal. (result ≡ number_of refusal) × (numbers.new ≡ numbers.old)) }
 {
     match answer {
-        Ok(answer) => place(numbers, &answer.0),
+        Ok(answer) => {
+            place(numbers, &answer.0);
+            0
+        }
         Err(refusal) => u8::from(refusal),
     }
 }

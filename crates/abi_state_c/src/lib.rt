@@ -1,5 +1,5 @@
 // The static library of Check, Children, Evaluate and Mark for hosts in C and Rust: each export calls the function of its name in `abi_state`, on which the other
-// levels' static libraries build too, and has its clauses.
+// levels' static libraries build too, and has its clauses. (Twice, as a static library exports the functions of its own crate alone.)
 #![tactic(auto)]
 
 ghost use Rattle.std.specs.Prelude.{◌≡◌, [], ◌∷◌};

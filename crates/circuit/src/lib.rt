@@ -78,7 +78,7 @@ pub struct Entry {
     pub choice: Choice,
 }
 
-// How a run ends: Spent with the front's size, Stuck at an entry that can't be done, Refused with the test that failed.
+// How a run ends: Spent with the front's size, Stuck at an entry that can't be done, Refused with the test that failed. (One enum of its own, and no `Result` of endings: document 01 names it so.)
 #[derive(Clone, Copy, Debug, PartialEq, Eq)]
 pub enum Ending {
     Found,

@@ -1,13 +1,13 @@
 -- The laws of the folds, at the code's i + 1 and i - 1. Assumes nothing.
-use Prim.Native.Nat.{ℕ, zero, suc, ◌+◌, ◌<◌, ◌≤◌}
+use Prim.Native.Nat.{ℕ, zero, suc, ◌+◌, ◌<◌}
 use mathlib.Core.Bool.{Bool, true, false}
-use mathlib.Core.Path.{◌≡◌, refl, sym}
+use mathlib.Core.Path.{◌≡◌, refl}
 use mathlib.Core.Logic.{inl, inr}
 use native.Mathlib.Nat.{le_of_suc-le-suc, eq-or-lt_of_le}
 use native.Mathlib.Numerals.{add-one}
 use native.Mathlib.Omega.{arith}
 use Rattle.folds.specs.Folds.{◌and◌, all_below}
-use Rattle.folds.proofs.Tests.{and_left, and_right, and_both, and_first_false, and_second_false, flags}
+use Rattle.folds.proofs.Tests.{and_left, and_right, and_both, and_first_false, and_second_false}
 
 -- ---- a test of every number below n
 
@@ -46,12 +46,3 @@ module _ (p : ℕ → Bool) where
   unfolding all_below
   all_of zero f = refl
   all_of (suc n) f = and_both (all_below n p) (p n) (all_of n (λ i l. f i (omega arith))) (f n (omega arith))
-
--- For `search`: the ends of a loop that tests every number below n, whose bound f is n or a local that equals n.
-pub fails_at : (n i : ℕ) (p : ℕ → Bool) → i < n → p i ≡ false → false ≡ all_below n p
-fails_at n i p l h = sym (all_fails p n i l h)
-
-pub all_done : (n i : ℕ) (p : ℕ → Bool) → all_below i p ≡ true → i ≤ n → n ≤ i → true ≡ all_below n p
-all_done n i p a l r = let e : n ≡ i = omega arith in rw (e, a)
-
-pub ruleset loops = (all_none, all_more, fails_at, all_done, flags)

@@ -1,5 +1,5 @@
 -- The laws of `and` and `or`. Assumes nothing.
-use mathlib.Core.Bool.{Bool, true, false, not, true≢false, false≢true}
+use mathlib.Core.Bool.{Bool, true, false, true≢false, false≢true}
 use mathlib.Core.Path.{◌≡◌, refl, sym}
 use mathlib.Core.Logic.{◌⊎◌, inl, inr}
 use borrow.Author.Tests.{lt-ltb, le-ltb, le-leb, lt-leb, eq-eqb, ne_eqb}
@@ -98,14 +98,3 @@ pub or_goes_on : (a b c : Bool) → a ≡ false → c ≡ b → c ≡ a or b
 or_goes_on a b c h e = rw (or_past a b h) e
 
 pub ruleset bools = (and_both, and_first_false, and_second_false, and_ends_first, and_ends_second, and_goes_on, or_ends, or_goes_on, lt-ltb, le-ltb, le-leb, lt-leb, eq-eqb, ne_eqb)
-
--- what a call's flag says of the definition in its contract
-pub flag_false : (t s : Bool) → not t ≡ true → t ≡ s → s ≡ false
-flag_false true s h e = absurd (false≢true h)
-flag_false false s h e = sym e
-
-pub flag_true : (t s : Bool) → not t ≡ false → t ≡ s → s ≡ true
-flag_true true s h e = sym e
-flag_true false s h e = absurd (true≢false h)
-
-pub ruleset flags = (flag_false, flag_true)

@@ -1,4 +1,4 @@
-// What the code of these crates knows of single kinds of gate. (Others test for an input only.) A kind and its gate's value v are two parameters, as the definitions take them.
+// What the code of these crates knows of single kinds of gate. (Others test for an input, and `Table::kind` takes a byte above the last kind's for that.) A kind and its gate's value v are two parameters: half of these functions take the kind alone, and a struct of both would be made at each call of the others.
 #![tactic(auto)]
 
 ghost use Rattle.std.specs.Prelude.{◌≡◌, ◌≤◌};

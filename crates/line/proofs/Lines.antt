@@ -5,7 +5,7 @@ use mathlib.Core.Logic.{inl, inr}
 use mathlib.Core.Bool.{true, false}
 use mathlib.Core.List.{List, ◌++◌}
 use native.Mathlib.Omega.{arith}
-use lib.ListN.{length, take, drop, replicate, length-append}
+use lib.ListN.{length, take, drop, replicate, length-append, length-drop}
 use lib.Seq.{take_at, take_all, length-take-le, take-append_seam, drop-drop, drop-append_seam}
 use lib.Dec.{leb}
 use borrow.Author.Tests.{leb-true, leb-false, le-leb, lt-leb, eqb-true, eq-eqb}
@@ -22,7 +22,7 @@ use Rattle.search.specs.Inner.{run_on_map}
 use Rattle.search.specs.Run.{run_answer, run_effect}
 use Rattle.search.proofs.Endings.{found_passes}
 use Rattle.search.proofs.Runs.{on_a_map, no_map}
-use Rattle.line.specs.Line.{most_input, lent, report, input_room, tape_place, map_part, configuration_part, tape_part, input_test, refused_line, effect_line, run_line, line_of, input_of, CutInput, LineOfAll, line_room, LineEffect, line_answer, line_effect}
+use Rattle.line.specs.Line.{most_input, lent, report, input_room, configuration_place, tape_place, map_part, configuration_part, tape_part, input_test, refused_line, effect_line, run_line, line_of, input_of, CutInput, LineOfAll, line_room, LineEffect, line_answer, line_effect}
 
 -- what Found tells of the map
 pub found_shaped : (m s tape work ans : List ℕ) → (run_effect m s tape work ans).found ≡ true → Shaped m
@@ -50,6 +50,13 @@ pub whole : (x : List ℕ) → input_test x ≡ true → Whole x
 unfolding input_test
 whole x e = (let q = eqb-true (length x) (tape_place x + u16_at x 4) (and_right _ _ e) in
     record { few = leb-true _ _ (and_left _ _ e); head = omega arith; exact = q })
+
+-- its configuration is no longer than it
+pub configuration_fits : (x s : List ℕ) → input_test x ≡ true → s ≡ configuration_part x → length s ≤ most_input
+configuration_fits x s t e =
+    let w = whole x t in
+    let d = length-drop (configuration_place x) x in
+    rw (e, length-take-le (tape_place x - configuration_place x) (drop (configuration_place x) x) (omega (arith, w.exact, d))) (omega (arith, w.few, w.exact))
 
 -- the line of a whole input, and of any other
 module _ (x : List ℕ) where

@@ -1,6 +1,6 @@
 // The parts of an input, and the line of the run on them.
-ghost use Rattle.std.specs.Prelude.{◌≡◌, ◌≤◌, length};
-ghost use Rattle.line.specs.Line.{most_input, run_line, input_test, line_of};
+ghost use Rattle.std.specs.Prelude.{◌≡◌, ◌≤◌, IfSome, is_some, length};
+ghost use Rattle.line.specs.Line.{most_input, run_line, map_part, configuration_part, tape_part, input_test, line_of};
 
 use super::MOST_INPUT;
 use super::report::{Text, ran, refused};
@@ -44,32 +44,45 @@ fn run_on_copy(map: &[u8], configuration: &[u8], tape: &[u8]) -> Text
     run(map, copy, tape)
 }
 
-// Is the input exactly its parts, and not too long?
-#[tactic(auto, using(folds::proofs::Tests::and_both, folds::proofs::Tests::and_first_false, folds::proofs::Tests::and_second_false), unfolding(crate::specs::Line::input_test))]
-fn is_whole(input: &[u8]) -> bool
-    ensures { result ≡ input_test input.now }
-{
-    if MOST_INPUT < input.len() {
-        return false;
-    }
-    if input.len() < 6 {
-        return false;
-    }
-    let bodies = usize::from(word(input, 0))
-        + usize::from(word(input, 2))
-        + usize::from(word(input, 4));
-    input.len() == 6 + bodies
+// The parts of an input.
+#[derive(Clone, Copy, Debug, PartialEq, Eq)]
+struct Parts<'a> {
+    map: &'a [u8],
+    configuration: &'a [u8],
+    tape: &'a [u8],
 }
 
-// The line for an input.
-#[tactic(auto, using(crate::proofs::Lines::line_refused, crate::proofs::Lines::line_runs, crate::proofs::Lines::whole))]
-pub fn line_of(input: &[u8]) -> Text
-    ensures { result.bytes ≡ line_of input.now }
+// The parts of an input, where it is exactly these and not too long.
+#[tactic(auto, using(folds::proofs::Tests::and_both, folds::proofs::Tests::and_first_false, folds::proofs::Tests::and_second_false), unfolding(crate::specs::Line::input_test))]
+fn parts_of(input: &[u8]) -> Option<Parts>
+    ensures whole { is_some result ≡ input_test input.now }
+    ensures parts { IfSome result (λ p. (p.map.now ≡ map_part input.now) × ((p.configuration.now ≡ configuration_part input.now) × (p.tape.now ≡ tape_part input.now))) }
 {
-    if !is_whole(input) {
-        return refused(0);
+    if MOST_INPUT < input.len() {
+        return None;
+    }
+    if input.len() < 6 {
+        return None;
     }
     let a = 6 + usize::from(word(input, 0));
     let b = a + usize::from(word(input, 2));
-    run_on_copy(&input[6..a], &input[a..b], &input[b..])
+    if input.len() != b + usize::from(word(input, 4)) {
+        return None;
+    }
+    Some(Parts {
+        map: &input[6..a],
+        configuration: &input[a..b],
+        tape: &input[b..],
+    })
+}
+
+// The line for an input.
+#[tactic(auto, using(crate::proofs::Lines::line_refused, crate::proofs::Lines::line_runs, crate::proofs::Lines::configuration_fits))]
+pub fn line_of(input: &[u8]) -> Text
+    ensures { result.bytes ≡ line_of input.now }
+{
+    let Some(parts) = parts_of(input) else {
+        return refused(0);
+    };
+    run_on_copy(parts.map, parts.configuration, parts.tape)
 }

@@ -25,7 +25,7 @@ fn push_number(text: &mut Text, number: u32)
     text.push_str(digits.format(number));
 }
 
-// The digit of a value, by whether it is 1.
+// The digit of a value, by whether it is 1. (One byte of two: a number's printing would be a call for each gate.)
 fn digit_of(is_on: bool) -> &'static str
     ensures { result.now ≡ cond is_on 49 48 ∷ [] }
 {

@@ -64,14 +64,10 @@ pub fn mark(map: Map, marks: &mut [u8])
     }
 }
 
-// The size of the interest set. (By a sum: `filter` and `count` take a jump at each gate, and a tenth more of a survey.)
+// The size of the interest set.
 pub fn size(marks: &[u8]) -> u16
     requires { length marks.now ≤ most_gates }
     ensures { result ≡ interest_count marks.now }
 {
-    let mut count = 0;
-    for mark in marks {
-        count += u16::from(4 <= *mark);
-    }
-    count
+    marks.iter().map(|mark| u16::from(4 <= *mark)).sum()
 }

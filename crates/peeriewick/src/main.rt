@@ -11,7 +11,7 @@ use reading::read_full;
 use std::io;
 
 // The line for standard input, of which `buf` took the first n bytes, written into the first bytes of `out`. `buf` has a byte more than an input may have: that is
-// needed, and enough (`CutInput`).
+// needed, and enough (`CutInput`). (With `buf` itself and not its first n bytes: how long it is belongs to what is promised.)
 fn line_of<'a>(buf: &[u8], n: usize, out: &'a mut [u8]) -> &'a [u8]
     requires buf_len { (length buf.now ≡ input_room) × (n ≤ length buf.now) }
     requires line_room_in_bounds { line_room ≤ length out.old }

@@ -1,10 +1,12 @@
 -- For inner functions: Evaluate and Mark behind the map's tests. Assumes nothing.
-use Rattle.std.specs.Prelude.{ℕ, ◌≡◌, Bool, List, length, get_or, eqb, Result, IfOk}
+use Rattle.std.specs.Prelude.{ℕ, ◌<◌, ◌≡◌, Bool, true, List, length, get_or, eqb, Result, IfOk}
 use Rattle.std.specs.Borrow.{Bor}
 use Rattle.circuit.specs.declared.Refusal.{Refusal}
 use Rattle.state.specs.declared.gates.Values.{Values}
 use Rattle.folds.specs.Folds.{all_below}
-use Rattle.map.specs.Map.{code_count, code_gate, code_value, input_count}
+use Rattle.circuit.specs.Gate.{kind_of, is_input}
+use Rattle.circuit.specs.Evaluate.{inputs_before, values}
+use Rattle.map.specs.Map.{gate_count, kind_byte, circuit, code_count, code_gate, code_value, input_count}
 use Rattle.map.specs.declared.accepted.Map.{Map}
 use Rattle.map.specs.Check.{first_failed}
 use Rattle.state.specs.State.{Bits, row_tests, configuration_tests, EvaluateEffect, evaluate_by, MarkEffect, mark_by}
@@ -13,6 +15,16 @@ use Rattle.state.specs.State.{Bits, row_tests, configuration_tests, EvaluateEffe
 pub record RowTested (m row : List ℕ) : Type 0 where
   pub long : length row ≡ input_count m
   pub bits : Bits row
+
+-- An input's value is asked for by its gate number and its place, which is how many inputs stand before it: this may be done for each.
+abbrev pub AsksInputs : (ℕ → ℕ → Type 0) → List ℕ → Type 0
+AsksInputs pre m = (g : ℕ) → g < gate_count m → is_input (kind_of (kind_byte m g)) ≡ true → pre g (inputs_before (circuit m) g)
+
+-- w is every gate's value, where each input's is one that was given for it
+pub record ValuesBy (post : ℕ → ℕ → Bool → Type 0) (m w : List ℕ) : Type 0 where
+  pub at : ℕ → Bool
+  pub given : (g : ℕ) → g < gate_count m → is_input (kind_of (kind_byte m g)) ≡ true → post g (inputs_before (circuit m) g) (at g)
+  pub are : w ≡ values (circuit m) at (gate_count m)
 
 -- what tests 9 and 10 of a configuration give: where they pass, these bytes as one of the map
 abbrev pub IsConfigurationOf : Map → Bor (List ℕ) → Result Values Refusal → Type 0

@@ -24,18 +24,16 @@ impl Values<'_> {
         self.bytes[g] == 1
     }
 
-    // How many children of gate g are at 1. (By a sum: `filter` and `count` take a jump by each child's value.)
+    // How many children of gate g are at 1.
     fn ones(self, g: usize) -> usize
         requires { g < self.map.gates }
         ensures { (result ≡ length (select (λ j. on self.entry.bytes.now (child_at self.entry.map.bytes.now g j)) (up_to (fan_in self.entry.map.bytes.now g))))
             × (result ≤ fan_in self.entry.map.bytes.now g) }
     {
         let gate = self.map.gate(g);
-        let mut count = 0;
-        for j in 0..gate.fan() {
-            count += usize::from(self.is_on(gate.kid(j)));
-        }
-        count
+        (0..gate.fan())
+            .map(|j| usize::from(self.is_on(gate.kid(j))))
+            .sum()
     }
 
     // Do its children give gate g the value 1? Those of a kind with one fan-in alone are read without a loop, whose end would often be foretold wrongly.

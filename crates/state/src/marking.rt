@@ -1,4 +1,4 @@
-// Mark on an accepted map.
+// Mark on an accepted map. (`r < codes` is a clause: it is the range of an index.)
 ghost use Rattle.std.specs.Prelude.{◌≡◌, ◌<◌, get_or, eqb};
 ghost use Rattle.folds.specs.Folds.{all_below};
 ghost use Rattle.circuit.specs.Circuit.{justified};

@@ -6,7 +6,7 @@ use super::Coded;
 use map::Gate;
 use state::Values;
 
-// An unjustified gate of a configuration, its record read once, beside the marks of the map's codes.
+// An unjustified gate of a configuration, its record read once, beside the marks of the map's codes. (Without `impl Model`: that of a `Copy` type must give its fields back, so contracts would be no shorter.)
 #[derive(Clone, Copy, Debug, PartialEq, Eq)]
 pub struct Drawn<'a> {
     pub gate: Gate<'a>,

@@ -1,4 +1,4 @@
-// Which options of a gate are left: those that turn no coded gate.
+// Which options of a gate are left: those that turn no coded gate. (`j` below the fan-in is a clause: it is the range of an index.)
 ghost use Rattle.std.specs.Prelude.{◌≡◌, ◌<◌};
 ghost use Rattle.circuit.specs.Run.{chosen};
 ghost use Rattle.circuit.specs.declared.Choice.TheVariants.{Down};

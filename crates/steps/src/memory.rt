@@ -5,7 +5,7 @@ ghost use Rattle.map.specs.Inner.{CodeMarks};
 
 use map::{MOST_GATES, Map};
 
-// The marks of a map's codes: 1 for each coded gate, else 0. (They are lent: an array of its own would be copied wherever it goes.)
+// The marks of a map's codes: 1 for each coded gate, else 0. (They are lent: with an array of its own `over` would hand out the marked array by a call of memcpy, and the archives ask the C library for memset alone.)
 #[derive(Clone, Copy, Debug, PartialEq, Eq)]
 pub struct Coded<'a> {
     pub map: Map<'a>,
@@ -14,7 +14,16 @@ pub struct Coded<'a> {
     pub ghost marked: { CodeMarks map.bytes.now (code_count map.bytes.now) marks.now },
 }
 
-impl Coded<'_> {
+impl<'a> Coded<'a> {
+    // The marks of a map's codes, in lent memory that is all 0.
+    pub fn over(map: Map<'a>, marks: &'a mut [u8; MOST_GATES]) -> Self
+        requires { marks.old ≡ replicate MOST_GATES 0 }
+        ensures { result.map ≡ map.entry }
+    {
+        map.mark_coded(marks);
+        Coded { map, marks }
+    }
+
     // Is gate g coded?
     pub fn has(self, g: usize) -> bool
         requires { g < self.map.gates }

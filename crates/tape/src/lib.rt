@@ -10,7 +10,7 @@ use circuit::{Choice, Entry};
 // The longest tape, in bytes.
 pub const MOST_TAPE: usize = 65532;
 
-// The tape reader: the lent tape and the place reached.
+// The tape reader: the lent tape and the place reached. (Not the rest of the tape: document 01 wants the slice with its place.)
 #[derive(Clone, Copy, Debug, PartialEq, Eq)]
 pub struct Tape<'a> {
     pub src: &'a [u8],
@@ -34,7 +34,7 @@ impl Tape<'_> {
     }
 }
 
-// The choice of an entry's kind byte and option byte. (A byte: this makes the enum of it, behind test 13.)
+// The choice of an entry's kind byte and option byte. (It can't fail: test 13 goes over the whole tape first, entries never reached too, so any byte here is a kind's, and the last arm is 2.)
 fn choice_of(kind: u8, option: u8) -> Choice
     ensures { result ≡ choice_of kind option }
 {
@@ -69,5 +69,5 @@ pub fn length_ok(tape: &[u8]) -> bool
 pub fn kinds_ok(tape: &[u8]) -> bool
     ensures { result ≡ entry_kinds_test tape.now }
 {
-    (0..tape.len() / 4).all(|i| tape[4 * i + 2] <= 2)
+    tape.chunks_exact(4).all(|entry| entry[2] <= 2)
 }

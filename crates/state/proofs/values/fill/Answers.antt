@@ -1,13 +1,10 @@
-use Rattle.std.proofs.Common.{arith}
-use Rattle.std.proofs.lemmas.Grind.{common_steps}
-use Rattle.state.proofs.Filling.{fill_none, fill_more, fill_all}
+use Rattle.std.proofs.Common.{of_calls}
+use Rattle.circuit.specs.Circuit.{on}
+use Rattle.circuit.specs.Evaluate.{inputs_before, evaluate}
+use Rattle.map.specs.Map.{circuit}
+use Rattle.state.proofs.Filling.{values_as}
 use Rattle.state.proofs.values.fill.Goals as goal
 
-pub loop-g-init : goal.loop-g-init
-loop-g-init c = fill_none _ _ _
-
-pub loop-g-preserved : goal.loop-g-preserved
-loop-g-preserved c = fill_more _ _ _ _ _ _ _ _ c.args.map.is c.loop-g.invariant (omega arith) (omega arith) c.gate_value-value.ensures (grind (arith, common_steps))
-
 pub returns : goal.returns
-returns c = fill_all _ _ _ _ _ _ c.loop-g.invariant (omega arith) (omega arith)
+unfolding evaluate
+returns c = values_as _ c.args.map.bytes.now _ (λ g. on c.args.row.now (inputs_before (circuit c.args.map.bytes.now) g)) c.write_values.ensures (λ g v h i e. search of_calls)
