@@ -29,7 +29,7 @@ pub extern "C" fn peeriewick_move(
     place::tell(numbers, answer)
 }
 
-// Run. Numbers: 1 for Found, 2 for Stuck and 0 for Spent, moves, flips, the front's size.
+// Run. Numbers: 1 for Found, 2 for Stuck and 0 for Spent (numbers, as the C interface has all answers), moves, flips, the front's size.
 #[tactic(auto, unfolding(search::specs::Run::run_answer))]
 #[unsafe(no_mangle)]
 pub extern "C" fn peeriewick_run(

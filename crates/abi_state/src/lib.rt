@@ -30,17 +30,15 @@ pub extern "C" fn peeriewick_children(map: &[u8], gate: usize, numbers: &mut [us
     place::place(numbers, &[part.start, part.len()]);
 }
 
-// Evaluate. (Not by `tell`: it has no numbers.)
+// Evaluate. It has no numbers.
 #[tactic(auto, unfolding(state::specs::State::evaluate_answer))]
 #[unsafe(no_mangle)]
 pub extern "C" fn peeriewick_evaluate(map: &[u8], row: &[u8], out: &mut [u8]) -> u8
     ensures { host_answer result (out.new ∷ []) []
         ≡ evaluate_for_host (evaluate_effect map.now row.now out.old) }
 {
-    match state::evaluate(map, row, out) {
-        Ok(()) => 0,
-        Err(refusal) => u8::from(refusal),
-    }
+    let answer = state::evaluate(map, row, out).map(|()| Numbers([]));
+    place::tell(&mut [], answer)
 }
 
 // Mark. Numbers: 1 for yes, 0 for no.

@@ -60,6 +60,7 @@ const LENT: [u8; 2048] = [170; 2048];
 // A configuration, a tape or an input: more bytes than any may have.
 type Bytes = ArrayVec<u8, 66000>;
 
+// (By hand, as `print_outcome`.)
 fn print_refused(rt: &impl Print, refusal: Refusal) -> io::Result<()> {
     print!(rt; "REFUSED {}", u8::from(refusal))
 }
@@ -146,6 +147,7 @@ fn make_move(
     print_memory(rt, work)
 }
 
+// (By hand and no `Display`: it would serve this function alone, as `line` doesn't print by `write!`, whose contract lets it fail.)
 fn print_outcome(rt: &impl Print, outcome: Outcome) -> io::Result<()> {
     let moves = outcome.moves;
     let flips = outcome.flips;

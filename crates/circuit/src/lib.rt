@@ -59,6 +59,7 @@ impl From<Refusal> for u8 {
     ghost from_gives = { λ refusal number. number ≡ number_of refusal };
 
     fn from(refusal: Refusal) -> u8 {
+        // (`as`: this is the `From` itself, and the enum gives each refusal its number)
         refusal as u8
     }
 }

@@ -1,4 +1,4 @@
-// What the code of these crates knows of single kinds of gate. (Others test for an input, and `Table::kind` takes a byte above the last kind's for that.) A kind and its gate's value v are two parameters: half of these functions take the kind alone, and a struct of both would be made at each call of the others.
+// What the code of these crates knows of single kinds of gate. (Others test for an input, and `Table::kind` reads a byte above the last kind's as the last kind's.) A kind and its gate's value v stay two parameters, here and in those who call: a struct of both would keep no fact, and each `match` by the kind would take it apart again.
 #![tactic(auto)]
 
 ghost use Rattle.std.specs.Prelude.{◌≡◌, ◌≤◌};
@@ -7,7 +7,7 @@ ghost use Rattle.kinds.specs.Kinds.{kind_fits, only_fan_in, GivesBy, option_coun
 
 use circuit::Kind;
 
-// The smallest and the largest fan-in of each kind, in their order. (Tables: a `match` is a jump by the kind for every gate, often foretold wrongly: with it Check took half as long again on deep maps, and Evaluate a seventh more.)
+// The smallest and the largest fan-in of each kind, in their order. (Tables: a `match` is a jump by the kind for every gate, often foretold wrongly: with it Check took half as long again on deep maps, and Evaluate a seventh more. Two: one of pairs took an instruction more for every gate.)
 const LEAST: [u8; 5] = [0, 1, 2, 2, 2];
 
 const MOST: [u8; 5] = [0, 1, 8, 8, 2];
@@ -17,7 +17,7 @@ const MOST: [u8; 5] = [0, 1, 8, 8, 2];
 pub fn allows(kind: Kind, fan: u8) -> bool
     ensures { result ≡ fan_in_fits kind fan }
 {
-    // (`as`: a kind is its place, and nothing converts it)
+    // (`as`: a kind is its place; a `From` would hold the same `as`, for this use alone)
     let place = kind as usize;
     (LEAST[place]..=MOST[place]).contains(&fan)
 }

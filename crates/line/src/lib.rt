@@ -17,7 +17,7 @@ pub const INPUT_ROOM: usize = MOST_INPUT + 1;
 pub const LINE_ROOM: usize = 1100;
 
 // Writes the line for an input into the first bytes of `out` and returns how many they are. `LINE_ROOM` bytes hold any line: with less it writes nothing and
-// returns 0. (No `Option`: it promises the length of what it wrote, and then nothing is written.)
+// returns 0. (No `Option`: the result is how many bytes were written, and 0 is that too. And no slice of `out`: all of `out` is promised, and memory from which a result borrows has no `out.new`.)
 #[tactic(auto, using(crate::proofs::Lines::prints, crate::proofs::Lines::prints_nothing))]
 pub fn line(input: &[u8], out: &mut [u8]) -> usize
     ensures out_after { line_answer result out.new ≡ line_effect input.now out.old }

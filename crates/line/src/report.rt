@@ -1,4 +1,4 @@
-// The line of a run.
+// The line of a run. (How much longer a text gets, `short`, is a clause of each function: it is another number in each.)
 ghost use Rattle.std.specs.Prelude.{◌≡◌, [], ◌∷◌, ◌++◌, ◌+◌, ◌≤◌, cond, length};
 ghost use Rattle.arrayvec.specs.ArrayString.{array_string_len};
 ghost use Rattle.circuit.specs.Run.{told};
@@ -25,7 +25,7 @@ fn push_number(text: &mut Text, number: u32)
     text.push_str(digits.format(number));
 }
 
-// The digit of a value, by whether it is 1. (One byte of two: a number's printing would be a call for each gate.)
+// The digit of a value, by whether it is 1. (Not by `push_number`: its clauses allow ten bytes a number, so that it would have to be shown how long 0 and 1 are.)
 fn digit_of(is_on: bool) -> &'static str
     ensures { result.now ≡ cond is_on 49 48 ∷ [] }
 {
@@ -91,7 +91,7 @@ fn stuck(outcome: Outcome) -> Text
     text
 }
 
-// `REFUSED number` (a number, as the program's own 0 is no call's refusal)
+// `REFUSED number` (the number itself, as the line has it: an `Option<Refusal>`, None for the program's own 0, would only be turned into it here)
 pub fn refused(number: u8) -> Text
     ensures { result.bytes ≡ refused_line number }
 {

@@ -40,7 +40,7 @@ pub fn check(map: &[u8]) -> Result<Counts, Refusal>
     })
 }
 
-// Where in the map a gate's children stand: an empty range for an input, a gate past the end or a map that Check refuses.
+// Where in the map a gate's children stand: an empty range for an input, a gate past the end or a map that Check refuses. (No Option: Children promises empty bytes for these.)
 #[tactic(auto, using(crate::proofs::Parts::no_map, crate::proofs::Parts::past_end, crate::proofs::Parts::has_gate_lem), unfolding(crate::specs::Children::stretch_place, crate::specs::Children::stretch_length))]
 pub fn stretch(map: &[u8], gate: usize) -> Range<usize>
     ensures start { result.start ≡ stretch_place map.now gate }

@@ -26,7 +26,7 @@ fn child_mark(relevant: bool, b: u8) -> u8
     if relevant { 1 } else { b }
 }
 
-// Child x of a justified gate of this kind and value comes into the cone if it is relevant. The mark is written in any case: a jump here would often be foretold wrongly.
+// Child x of a justified gate of this kind and value comes into the cone if it is relevant. The mark is written in any case: a jump here would often be foretold wrongly. (Kind and value are two parameters, as in `kinds`.)
 #[tactic(auto, using(crate::proofs::Tables::paint_one))]
 fn mark_child(kind: Kind, v: bool, x: usize, s: Values, marks: &mut [u8])
     requires { (x < s.map.gates) × (x < length marks.old) }
@@ -75,7 +75,7 @@ fn mark_gate(s: Values, g: usize, marks: &mut [u8]) -> bool
     true
 }
 
-// Marks, with the coded gates at 1, become the cone and the front of s. Returns the front's size.
+// Marks, with the coded gates at 1, become the cone and the front of s. Returns the front's size. (Not by `sum`: a closure that writes the marks as it counts would be no plainer.)
 fn pass(s: Values, marks: &mut [u8]) -> u16
     requires room { s.map.gates ≡ length marks.old }
     requires code_marks { CodeMarks s.map.bytes.now (code_count s.map.bytes.now) marks.old }

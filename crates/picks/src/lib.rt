@@ -1,4 +1,4 @@
-// Picks from lists: the gate at a place of the front that marks show, and the best of some weights.
+// Picks from lists: the gate at a place of the front that marks show, and the best of some weights. (`k < length ..` is a clause: it is the range of an index.)
 #![tactic(auto)]
 
 ghost use Rattle.std.specs.Prelude.{◌≡◌, ◌<◌, length, get_or};

@@ -1,5 +1,5 @@
 // A run on an accepted map, step after step, in lent memory.
-// The lengths of what is written are clauses: a struct round a `&mut` would owe its fact at every write.
+// The lengths of what is written are clauses: a struct round a `&mut` would be lent anew for each call, and owe its fact at each write.
 #![tactic(auto)]
 
 ghost use Rattle.std.specs.Prelude.{◌≡◌, length};

@@ -8,7 +8,7 @@ use std::io;
 use std::io::{ErrorKind, Read};
 
 // Reads until `buf` is full or the input ends, however small the pieces in which it comes. Returns how many bytes it read: they are the first of `buf`, in their order.
-// (The loop has a last turn since a proof wants one. No input comes to it.)
+// (The loop has a last turn since a proof wants one. No input comes to it. `done` is counted by hand: `read_to_end` wants a heap, and `read_exact` doesn't say how many bytes came before the end.)
 #[tactic(auto, using(crate::proofs::Filled::read_some, crate::proofs::Filled::read_none))]
 pub fn read_full<R: Read>(input: &mut R, buf: &mut [u8]) -> io::Result<usize>
     ensures within { IfOk result (λ n. n ≤ length buf.new) }

@@ -1,9 +1,10 @@
 -- Move's answer, from its number. Assumes nothing.
-use Rattle.std.proofs.Common.{ℕ, ◌≡◌, ◌∙◌, sym, ap, List, ◌++◌, drop, length, arith, eq-eqb, ne_eqb, Ok, Err, Some, None, true, false}
+use Rattle.std.proofs.Common.{ℕ, ◌≡◌, ◌∙◌, sym, List, ◌++◌, drop, length, refl, arith, eq-eqb, ne_eqb, Option, Ok, Err, Some, None, true, false}
 use borrow.Author.Tests.{leb-false}
+use Rattle.std.specs.Option.{IsSome}
 use Rattle.circuit.specs.declared.Entry.{Entry}
 use Rattle.circuit.specs.declared.Refusal.{Refusal}
-use Rattle.circuit.specs.declared.Refusal.TheVariants.{TapeLength, EmptyFront}
+use Rattle.circuit.specs.declared.Refusal.TheVariants.{EmptyFront}
 use Rattle.circuit.specs.Refusal.{number_of}
 use Rattle.circuit.specs.Survey.{front_size, survey}
 use Rattle.circuit.proofs.Refusals.{number_some}
@@ -42,10 +43,6 @@ module _ (m s entry work : List ℕ) where
       let e : front_test m s ≡ false = rw (front_none (circuit m) s z) in
       refused_by EmptyFront _ (sym (stop _ _ _ e))
 
-  -- the reader at the start of an entry of 4 bytes is not at the end
-  pub entry_there : (t : Tape) → t.src.now ≡ entry → t.at ≡ 0 → length entry ≡ 4 → step_at t ≡ None → move_answer (Err TapeLength) s work ≡ move_on_entry m s entry work
-  entry_there t on start l q = absurd (omega (arith, start, ap length on, leb-false _ _ (step_over t q)))
-
   -- and the move
   pub entry_done : (marks : List ℕ) (front : ℕ) (t next : Tape) (e : Entry) (r : MoveReport) (u w : List ℕ) → MarksOf (circuit m) s marks front → ¬ (front ≡ 0) → t.src.now ≡ entry → t.at ≡ 0
       → step_at t ≡ Some (e, next) → DidEntry (circuit m) s e r u → w ≡ survey (circuit m) u ++ drop (gate_count m) work → move_answer (Ok r) u w ≡ move_on_entry m s entry work
@@ -72,3 +69,11 @@ module _ (m s entry work : List ℕ) where
   pub on_a_map : (r : MoveEffect) → verdict m ≡ 0 → r ≡ move_on_map m s entry work → r ≡ move_effect m s entry work
   unfolding move_effect move_on_map
   on_a_map r v q = rw (behind_accepted m (move_tests m s entry work) v) q
+
+-- the reader at the start of an entry of 4 bytes is not at the end
+pub entry_there : (t : Tape) → t.at ≡ 0 → length t.src.now ≡ 4 → IsSome (step_at t)
+entry_there t start l = by_step (step_at t) refl
+  where
+    by_step : (r : Option (Entry × Tape)) → step_at t ≡ r → IsSome r
+    by_step (Some x) q = refl
+    by_step None q = absurd (omega (arith, start, l, leb-false _ _ (step_over t q)))

@@ -1,12 +1,15 @@
 -- The turn of the loop that writes values, and the tests. Assumes nothing.
-use Rattle.std.proofs.Common.{ℕ, zero, suc, ◌+◌, ◌<◌, ◌≤◌, ◌≡◌, Bool, true, false, cond, List, [], ◌∷◌, ◌++◌, length, get_or, set, drop, eqb, leb, ltb, refl, sym, ap, eq-eqb, ne_eqb, ◌∙◌, inl, inr, arith}
+use Rattle.std.proofs.Common.{ℕ, zero, suc, max, take, subst, ◌+◌, ◌<◌, ◌≤◌, ◌≡◌, Bool, true, false, cond, List, [], ◌∷◌, ◌++◌, length, get_or, set, drop, eqb, leb, ltb, refl, sym, ap, eq-eqb, ne_eqb, ◌∙◌, inl, inr, arith}
 use Rattle.std.proofs.Math.ListN.{length-set}
 use mathlib.Core.List.{append_assoc, append-nil}
 use native.Mathlib.Numerals.{add-one}
 use lib.ListN.{get_or-append, get_or-eq_default}
-use lib.Seq.{drop-cons, drop-length, set_at}
+use Rattle.std.specs.List.{fold}
+use Rattle.std.proofs.lemmas.List.Sums.{fold_more}
+use lib.Seq.{drop-cons, drop-length, set_at, take-length}
 use borrow.Author.Tests.{leb-true, ltb-true, ltb-false}
-use Rattle.folds.proofs.Tests.{which}
+use Rattle.folds.proofs.Tests.{which, bools}
+use Rattle.folds.specs.Folds.{all_below}
 use Rattle.folds.proofs.Loops.{all_at}
 use Rattle.circuit.specs.Tools.{byte}
 use Rattle.circuit.specs.Gate.{kind_of, is_input, gives}
@@ -23,6 +26,18 @@ use Rattle.state.specs.State.{bits_test, Bits}
 use Rattle.state.specs.Inner.{RowTested, ValuesBy}
 
 -- ---- test 10
+
+most_of_first : (s : List ℕ) (n : ℕ) → n ≤ length s → leb (fold max 0 (take n s)) 1 ≡ all_below n (λ j. leb (get_or s j 0) 1)
+unfolding all_below
+most_of_first s zero l = refl
+most_of_first s (suc n) l =
+    let most : fold max 0 (take (n + 1) s) ≡ max (fold max 0 (take n s)) (get_or s n 0) = fold_more max 0 s n 0 (omega (arith, l)) in
+    grind (arith, bools, most, most_of_first s n (omega (arith, l)), add-one n)
+
+-- the largest byte is at most 1 exactly if each is
+pub most_at_1 : (s : List ℕ) → leb (fold max 0 s) 1 ≡ bits_test s
+unfolding bits_test
+most_at_1 s = subst (λ xs. leb (fold max 0 xs) 1 ≡ bits_test s) (take-length s) (most_of_first s (length s) (omega arith))
 
 pub bits_of : (s : List ℕ) → bits_test s ≡ true → Bits s
 unfolding bits_test
@@ -122,13 +137,13 @@ module _ (post : ℕ → ℕ → Bool → Type 0) (m out : List ℕ) where
     | inr i ↦ rw (i, ← e) (ap byte (o i))
   ]
 
-  pub fill_more : (w : List ℕ) (g place b n : ℕ) (v : Bool) → IsMap m → FilledTo w g place → g < gate_count m → g < length out
+  pub fill_more : (w : List ℕ) (g place b behind : ℕ) (v : Bool) → IsMap m → FilledTo w g place → g < gate_count m → g < length out
       → (is_input (kind_of (kind_byte m g)) ≡ true → post g place v) → (is_input (kind_of (kind_byte m g)) ≡ false → v ≡ given (circuit m) w g)
-      → b ≡ byte v → n ≡ byte (is_input (kind_of (kind_byte m g))) → FilledTo (set w g b) (g + 1) (place + n)
-  fill_more w g place b n v k f h l e o r q =
+      → b ≡ byte v → behind ≡ place + byte (is_input (kind_of (kind_byte m g))) → FilledTo (set w g b) (g + 1) behind
+  fill_more w g place b behind v k f h l e o r q =
       let again : w ≡ filled (circuit m) (with_at f.at g v) out g = f.holds ∙ filled_same (circuit m) f.at (with_at f.at g v) out g (λ x b i. sym (with_other f.at g v x b)) in
       record {
-        passed = rw (inputs_more m g, ← f.passed, q);
+        passed = rw (inputs_more m g, ← f.passed) q;
         few = omega (arith, f.few, q, byte_bit (is_input (kind_of (kind_byte m g))));
         at = with_at f.at g v;
         given = given_more f.at g v f.given (rw f.passed at e);

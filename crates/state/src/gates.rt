@@ -7,7 +7,7 @@ ghost use Rattle.map.specs.Map.{fan_in, child_at, circuit};
 use circuit::Kind;
 use map::Map;
 
-// A byte for each gate of a map: a configuration, or one that is being written.
+// At least a byte for each gate of a map: a configuration, or one that is being written.
 #[derive(Clone, Copy, Debug, PartialEq, Eq)]
 pub struct Values<'a> {
     pub map: Map<'a>,

@@ -1,5 +1,6 @@
 // Evaluate on an accepted map, and the test of a configuration. (`g < gates` is a clause: it is the range of an index.)
-ghost use Rattle.std.specs.Prelude.{◌≡◌, true, false, ◌<◌, ◌≤◌, length};
+ghost use Rattle.std.specs.Prelude.{◌≡◌, true, false, ◌+◌, ◌<◌, ◌≤◌, length};
+ghost use Rattle.circuit.specs.Tools.{byte};
 ghost use Rattle.circuit.specs.Refusal.{number_given};
 ghost use Rattle.circuit.specs.Gate.{kind_of, is_input};
 ghost use Rattle.circuit.specs.Circuit.{given};
@@ -13,16 +14,12 @@ use super::Values;
 use circuit::{Kind, Refusal};
 use map::Map;
 
-// Test 10, by the largest byte: a loop that goes to the end is one that the compiler can do many bytes at a time. (Not by `max`: it takes the first byte by itself, so that 31 of 32 bytes are left over at the end.)
-#[tactic(auto, using(folds::proofs::Loops::all_none, folds::proofs::Loops::all_next, folds::proofs::Tests::bools), unfolding(crate::specs::State::bits_test))]
+// Test 10, by the largest byte: a fold that goes to the end is one that the compiler can do many bytes at a time. (From 0, and not by `max`, which takes the first byte by itself: up to 31 bytes are left over at the end.)
+#[tactic(auto, unfolding(crate::specs::State::bits_test))]
 pub fn bits_ok(s: &[u8]) -> bool
     ensures { result ≡ bits_test s.now }
 {
-    let mut most = 0;
-    for b in s {
-        most = most.max(*b);
-    }
-    most <= 1
+    s.iter().fold(0, |most, b| most.max(*b)) <= 1
 }
 
 // Tests 9 and 10 of a configuration, which they hand on.
@@ -40,23 +37,29 @@ pub fn configuration<'a>(map: Map<'a>, bytes: &'a [u8]) -> Result<Values<'a>, Re
     Ok(Values { map, bytes })
 }
 
-// The value of gate g, of whose map the gates below it stand in `below`: an input's by `input`, another's as its children give it.
-fn gate_value<F: Fn(usize, usize) -> bool>(below: Values, g: usize, place: usize, input: &F) -> bool
-    requires gate { g < below.map.gates }
+// The value of gate g, where `below` has those of the gates below it: an input's is what `input` says, another's what its children give. With it, the place of the next input.
+fn gate_value<F: Fn(usize, usize) -> bool>(
+    below: Values,
+    g: usize,
+    place: usize,
+    input: &F,
+) -> (bool, usize)
+    requires gate { (g < below.map.gates) × (place ≤ g) }
     requires asked { is_input (kind_of (kind_byte below.map.bytes.now g)) ≡ true → F.pre input.now g place }
-    ensures input { is_input (kind_of (kind_byte below.entry.map.bytes.now g)) ≡ true → F.post input.now g place result }
+    ensures input { is_input (kind_of (kind_byte below.entry.map.bytes.now g)) ≡ true → F.post input.now g place result.0 }
     ensures other { is_input (kind_of (kind_byte below.entry.map.bytes.now g)) ≡ false
-        → result ≡ given (circuit below.entry.map.bytes.now) below.entry.bytes.now g }
+        → result.0 ≡ given (circuit below.entry.map.bytes.now) below.entry.bytes.now g }
+    ensures behind { result.1 ≡ place + byte (is_input (kind_of (kind_byte below.entry.map.bytes.now g))) }
 {
     if below.map.kind(g) == Kind::Input {
-        input(g, place)
+        (input(g, place), place + 1)
     } else {
-        below.given(g)
+        (below.given(g), place)
     }
 }
 
 // Writes the value of every gate, in rising order. `input` gives an input's by its gate number and its place among the inputs.
-// (The length of `out` is a clause: a struct round a `&mut` would owe its fact at every write.)
+// (The length of `out` is a clause: a struct round a `&mut` would be lent anew for each call, and owe its fact at each write. `place` goes on by hand: a fold over the gates whose closure writes `out` would be no plainer.)
 pub fn write_values<F: Fn(usize, usize) -> bool>(map: Map, out: &mut [u8], input: F)
     requires room { length out.old ≡ map.gates }
     requires inputs { AsksInputs (F.pre input) map.bytes.now }
@@ -64,13 +67,13 @@ pub fn write_values<F: Fn(usize, usize) -> bool>(map: Map, out: &mut [u8], input
 {
     let mut place = 0;
     for g in 0..map.gates {
-        let value = gate_value(Values { map, bytes: out }, g, place, &input);
+        let (value, behind) = gate_value(Values { map, bytes: out }, g, place, &input);
         out[g] = u8::from(value);
-        place += usize::from(map.kind(g) == Kind::Input);
+        place = behind;
     }
 }
 
-// Evaluate's values: the inputs' stand in the row by their places.
+// Evaluate's values: the inputs' stand in the row by their places. (By `== 1`: a row is no `Values`, as it has a byte for each input alone.)
 #[tactic(auto, using(crate::proofs::Filling::row_has))]
 fn fill(map: Map, row: &[u8], out: &mut [u8])
     requires row_tested { RowTested map.bytes.now row.now }

@@ -44,7 +44,7 @@ fn weigh(drawn: Drawn, i: usize, trial: &mut Trial) -> u16
     sizes.interest
 }
 
-// The weights of some options of the gate: the sizes of the interest set after them. (By `push`, as in `left`.)
+// The weights of some options of the gate: the sizes of the interest set after them. (By `push`: the closure of a chain would write `trial`, which is no plainer.)
 fn weigh_all(drawn: Drawn, left: &[usize], trial: &mut Trial) -> ArrayVec<u16, MOST_OPTIONS>
     requires { length left.now ≤ MOST_OPTIONS }
     ensures { result.items

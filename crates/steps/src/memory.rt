@@ -1,4 +1,4 @@
-// What an entry works with beside the configuration.
+// What an entry works with beside the configuration. (`g < gates` is a clause: it is the range of an index.)
 ghost use Rattle.std.specs.Prelude.{◌≡◌, ◌<◌, ◌≤◌, length, get_or, eqb, not, replicate};
 ghost use Rattle.map.specs.Map.{code_count};
 ghost use Rattle.map.specs.Inner.{CodeMarks};
@@ -33,7 +33,7 @@ impl<'a> Coded<'a> {
     }
 }
 
-// Memory to weigh options in: a configuration to try, and the marks of its survey. What stands there is overwritten before it is read.
+// Memory to weigh options in: a configuration to try, and the marks of its survey. What stands there is overwritten before it is read. (Two arrays: a survey is written beside its configuration, a byte for each gate in both.)
 #[derive(Drop, Debug, PartialEq, Eq)]
 pub struct Trial {
     pub values: [u8; MOST_GATES],

@@ -18,7 +18,7 @@ pub fn flip(s: &mut [u8], x: usize)
     s[x] = u8::from(s[x] != 1);
 }
 
-// Turns child j of a gate of this kind and value, which is gate x, if option i does. Did it?
+// Turns child j of a gate of this kind and value, which is gate x, if option i does. Did it? (Kind and value are two parameters, as in `kinds`.)
 fn flip_child(kind: Kind, v: bool, i: usize, j: usize, x: usize, s: &mut [u8]) -> bool
     requires { x < length s.old }
     ensures { (s.new
@@ -41,7 +41,7 @@ pub fn count(drawn: Drawn) -> usize
     kinds::options(gate.kind, drawn.s.is_on(gate.number), gate.fan())
 }
 
-// Turns the gates of option i of a gate. Returns how many.
+// Turns the gates of option i of a gate. Returns how many. (Not by `sum`: a closure that writes s as it counts would be no plainer.)
 pub fn flip_option(gate: Gate, i: usize, s: &mut [u8]) -> u32
     requires { gate.map.gates ≤ length s.old }
     ensures { Flipped (option_gates gate.entry.map.bytes.now s.old gate.entry.number i) s.old s.new result }

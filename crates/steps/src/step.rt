@@ -1,4 +1,4 @@
-// What an entry does. (The configuration is written, so it is a slice beside what is read: a struct round a `&mut` would owe its fact at every write, and save one clause.)
+// What an entry does. (The configuration is written, so it is a slice beside what is read: a struct round a `&mut` would be lent anew for each call, and owe its fact at each write, to save one clause. `g < gates` is a clause: it is the range of an index.)
 ghost use Rattle.std.specs.Prelude.{◌≡◌, cond, [], ◌∷◌, ◌<◌, ◌≤◌, length, get_or, eqb};
 ghost use Rattle.circuit.specs.declared.Choice.TheVariants.{Down, Up};
 ghost use Rattle.circuit.specs.Run.{chosen, turned_by};
@@ -37,7 +37,8 @@ fn turn_sought(g: usize, sought: Option<usize>, coded: Coded, s: &mut [u8]) -> u
     options::flip_option(coded.map.gate(g), i, s)
 }
 
-// Turns the option that down with option byte i picks. Returns how many values.
+// Turns the option that down with option byte i picks. Returns how many values. (Inlined: see `left::list`.)
+#[inline(always)]
 fn down(g: usize, i: u8, coded: Coded, s: &mut [u8]) -> u32
     requires { Drawable coded.map.bytes.now coded.map.gates s.old g × (coded.map.gates ≡ length s.old) }
     ensures { Flipped (turned_by g (chosen (circuit coded.entry.map.bytes.now) s.old g (Down i))) s.old s.new result }
@@ -93,7 +94,7 @@ pub fn entry(
     MoveReport { gate, turned }
 }
 
-// Brings the marks up to date after values of s were turned, today by the full pass: they are the cone and front of s again. Returns the front's size.
+// Brings the marks up to date after values of s were turned, today by the full pass: they are the cone and front of s again. Returns the front's size. (`cone::mark` under a name of its own: the design has one place where a step brings the marks up to date, see docs/DECISIONS.md, 'What does a run cost?'.)
 pub fn settle(s: Values, marks: &mut [u8]) -> u16
     requires { s.map.gates ≡ length marks.old }
     ensures { MarksOf (circuit s.entry.map.bytes.now) s.entry.bytes.now marks.new result }

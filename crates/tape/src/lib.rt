@@ -34,7 +34,7 @@ impl Tape<'_> {
     }
 }
 
-// The choice of an entry's kind byte and option byte. (It can't fail: test 13 goes over the whole tape first, entries never reached too, so any byte here is a kind's, and the last arm is 2.)
+// The choice of an entry's kind byte and option byte. (Not by `try_from`: in every call test 13 has gone over the whole tape first, entries never reached too, so that the last arm is 2.)
 fn choice_of(kind: u8, option: u8) -> Choice
     ensures { result ≡ choice_of kind option }
 {
