@@ -14,19 +14,15 @@ use std::collections::{BTreeMap, BTreeSet};
 pub enum Rule {
     /// "the sum of all earlier fan-ins"
     Right,
-    /// A gate's own fan-in is added before its position is compared.
+    /// A gate's own fan-in is added before its position is compared. It is the same, as gate 0 has no children, to add for each gate that of the next.
     Own,
-    /// It is moved on one gate too late.
+    /// It is moved on one gate too late: for each gate the fan-in of the one before is added.
     Late,
-    /// For each gate the fan-in of the next one is added.
-    Next,
-    /// Of the one before.
-    Before,
-    /// Of the other one of the two: 0 and 1, 2 and 3, and so on.
+    /// For each gate that of the other one of the two: 0 and 1, 2 and 3, and so on.
     Other,
 }
 
-pub const WRONG_RULES: [Rule; 5] = [Rule::Own, Rule::Late, Rule::Next, Rule::Before, Rule::Other];
+pub const WRONG_RULES: [Rule; 3] = [Rule::Own, Rule::Late, Rule::Other];
 
 /// The total at each gate, and behind the last.
 pub fn totals(fan_ins: &[usize], rule: Rule) -> Vec<usize> {
@@ -35,8 +31,6 @@ pub fn totals(fan_ins: &[usize], rule: Rule) -> Vec<usize> {
     for gate in 0..fan_ins.len() {
         let added = match rule {
             Rule::Right | Rule::Own | Rule::Late => of(gate),
-            Rule::Next => of(gate + 1),
-            Rule::Before => of(gate.wrapping_sub(1)),
             Rule::Other => of(gate ^ 1),
         };
         list.push(list[gate] + added);

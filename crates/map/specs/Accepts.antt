@@ -1,10 +1,9 @@
 -- For inner functions: what the tests of a map give. Assumes nothing.
-use Rattle.std.specs.Prelude.{ℕ, ◌+◌, ◌≡◌, true, false, List, Option, Result, IfOk, MatchOption, MatchResult}
+use Rattle.std.specs.Prelude.{ℕ, ◌≡◌, List, Result, IfOk, MatchResult}
 use Rattle.std.specs.Borrow.{Bor}
 use Rattle.circuit.specs.declared.Refusal.{Refusal}
 use Rattle.circuit.specs.Refusal.{number_of}
-use Rattle.map.specs.Map.{fan_ins_before}
-use Rattle.map.specs.Check.{position_test, verdict}
+use Rattle.map.specs.Check.{verdict}
 use Rattle.map.specs.declared.decode.Table.{Table}
 use Rattle.map.specs.declared.accepted.Map.{Map}
 
@@ -15,7 +14,3 @@ IsTableOf b r = IfOk r (λ t. t.bytes ≡ b)
 -- what tests 1 to 7 give: these bytes as a map if Check accepts them, else Check's number
 abbrev pub IsAccepted : Bor (List ℕ) → Result Map Refusal → Type 0
 IsAccepted b r = MatchResult r (λ m. (m.bytes ≡ b) × (verdict b.now ≡ 0)) (λ e. number_of e ≡ verdict b.now)
-
--- what test 5 gives at gate g: where it passes, the sum of all fan-ins before the next gate
-abbrev pub TotalAfter : List ℕ → ℕ → Option ℕ → Type 0
-TotalAfter m g r = MatchOption r (position_test m g ≡ false) (λ total. (position_test m g ≡ true) × (total ≡ fan_ins_before m (g + 1)))

@@ -1,9 +1,8 @@
 // An accepted map, and its gates. (A gate stays a number in the lent bytes: the format has it so, and no call allocates. `g < gates` and the like are clauses, as in `decode`.)
-ghost use Rattle.std.specs.Prelude.{◌≡◌, ◌+◌, ◌*◌, ◌<◌, ◌≤◌, length};
-ghost use Rattle.circuit.specs.Circuit.{Circuit};
+ghost use Rattle.std.specs.Prelude.{◌≡◌, ◌+◌, ◌<◌, ◌≤◌, length};
 ghost use Rattle.circuit.specs.Evaluate.{inputs_before};
 ghost use Rattle.circuit.specs.Gate.{kind_of};
-ghost use Rattle.map.specs.Map.{gate_count, child_count, code_count, kind_byte, fan_in, first_child, code_gate, code_value, circuit};
+ghost use Rattle.map.specs.Map.{gate_count, code_count, kind_byte, fan_in, code_gate, code_value, circuit};
 ghost use Rattle.map.specs.Inner.{ContentsOf, IsMap, GateOf, KidOf, CodeMarks};
 
 use super::decode::Table;

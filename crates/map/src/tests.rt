@@ -1,12 +1,12 @@
 // The tests 1 to 7 of a map, each over all it concerns before the next. (`g < gates` and the like are clauses, as in `decode`.)
-ghost use Rattle.std.specs.Prelude.{◌≡◌, ◌+◌, ◌-◌, ◌<◌, ◌≤◌, length, eqb, ltb, MatchOption};
-ghost use Rattle.folds.specs.Folds.{◌or◌, all_below};
+ghost use Rattle.std.specs.Prelude.{◌≡◌, ◌+◌, ◌<◌, ◌≤◌, true, false, length, MatchOption};
+ghost use Rattle.folds.specs.Folds.{all_below};
 ghost use Rattle.circuit.specs.Refusal.{number_given};
 ghost use Rattle.map.specs.Map.{gate_count, code_count, fan_in, fan_ins_before};
 ghost use Rattle.map.specs.Check.{offsets_test, kind_test, position_test, positions_test, child_test, children_test, code_test};
 ghost use Rattle.map.specs.Check.{first_failed, contents_tests, bodies_tests};
 ghost use Rattle.map.specs.Inner.{ContentsOf};
-ghost use Rattle.map.specs.Accepts.{IsTableOf, IsAccepted, TotalAfter};
+ghost use Rattle.map.specs.Accepts.{IsTableOf, IsAccepted};
 
 use super::MOST_GATES;
 use super::accepted::Map;
@@ -61,13 +61,12 @@ fn kinds_ok(map: Table) -> bool
     (0..map.gates).all(|g| kinds::fits(map.kind_byte(g), map.fan_in(g)))
 }
 
-// Test 5 at gate g: the total for the next gate, if the position is right. The total that comes in is the sum of all fan-ins before gate g, and the one that goes out the sum before
-// gate g + 1.
+// Test 5 at gate g. The total that comes in is the sum of all fan-ins before gate g; the one that goes out, where the position is right, is the sum before gate g + 1.
 #[tactic(auto, using(crate::proofs::Laws::fans_more, folds::proofs::Tests::bools), unfolding(crate::specs::Check::position_test))]
 fn position_at(map: Table, g: usize, total: usize) -> Option<usize>
     requires gate { g < map.gates }
-    requires total_value { total ≡ fan_ins_before map.bytes.now g }
-    ensures { TotalAfter map.entry.bytes.now g result }
+    requires total_is { total ≡ fan_ins_before map.bytes.now g }
+    ensures { MatchOption result (position_test map.entry.bytes.now g ≡ false) (λ next. (position_test map.entry.bytes.now g ≡ true) × (next ≡ fan_ins_before map.entry.bytes.now (g + 1))) }
 {
     if usize::from(map.first_child(g)) == total {
         Some(total + usize::from(map.fan_in(g)))

@@ -7,7 +7,7 @@ ghost use Rattle.circuit.specs.Circuit.{given};
 ghost use Rattle.circuit.specs.Evaluate.{evaluate};
 ghost use Rattle.map.specs.Map.{kind_byte, circuit};
 ghost use Rattle.map.specs.Check.{first_failed};
-ghost use Rattle.state.specs.State.{over, bits_test, configuration_tests, evaluate_answer};
+ghost use Rattle.state.specs.State.{bits_test, configuration_tests, evaluate_answer};
 ghost use Rattle.state.specs.Inner.{evaluate_on_map, RowTested, IsConfigurationOf, AsksInputs, ValuesBy};
 
 use super::Values;
