@@ -6,11 +6,11 @@ use Rattle.circuit.specs.Circuit.{justified}
 use Rattle.circuit.specs.Evaluate.{inputs_before, values, evaluate, mark, differ}
 use Rattle.circuit.specs.Survey.{spread, reasons, cone, in_front, front, interest, survey, front_size, interest_size}
 use Rattle.circuit.specs.Run.{drawn, down_options, options_left, greedy_options, chosen, entry_chosen, entry_turns, run, answer}
-use Rattle.circuit.specs.Bench.{adder, circuit_p9, circuit_p11, nand, gap, nots, clash, choice, inner, all, Examples}
+use Rattle.circuit.specs.Bench.{adder, circuit_p9, circuit_p11, nand, gap, nots, clash, choice, inner, all, vote, Examples}
 
 -- every definition that the examples compute with, under one name
 opened : ℕ
-unfolding ◌and◌ ◌or◌ all_below descend justified inputs_before values evaluate mark differ spread reasons cone in_front front interest survey front_size interest_size drawn down_options options_left greedy_options chosen entry_chosen entry_turns run answer adder circuit_p9 circuit_p11 nand gap nots clash choice inner all
+unfolding ◌and◌ ◌or◌ all_below descend justified inputs_before values evaluate mark differ spread reasons cone in_front front interest survey front_size interest_size drawn down_options options_left greedy_options chosen entry_chosen entry_turns run answer adder circuit_p9 circuit_p11 nand gap nots clash choice inner all vote
 opened = 0
 
 pub examples : Examples
@@ -24,6 +24,11 @@ examples = record {
   not_below = refl;
   and_wrong_alone = refl;
   xor_options = refl;
+  voter_by_two = refl;
+  voter_by_one = refl;
+  voter_at_one = refl;
+  voter_pairs = refl;
+  voter_turns_one = refl;
   turns_all_wrong = refl;
   drawn_turns = refl;
   up_on_coded = refl;

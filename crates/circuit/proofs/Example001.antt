@@ -2,7 +2,7 @@
 use Prim.Native.Nat.{ℕ}
 use mathlib.Core.Path.{◌≡◌, refl, sym, ap, ◌∙◌}
 use mathlib.Core.Logic.{◌⊎◌, inl, inr}
-use mathlib.Core.Bool.{Bool, true, false, true≢false}
+use mathlib.Core.Bool.{Bool, true, false, cond, true≢false}
 use mathlib.Core.Option.{Option, none, some}
 use mathlib.Core.List.Memᴰ.{cases_cons as cases}
 use mathlib.Core.List.Memᴰ.{head as here}
@@ -10,12 +10,14 @@ use mathlib.Core.List.Memᴰ.{not-nil as nowhere}
 use mathlib.Core.List.Memᴰ.{tail as there}
 use mathlib.Core.List.{Memᴰ as In}
 use native.Mathlib.Omega.{arith}
+use lib.Dec.{eqb}
+use borrow.Author.Tests.{eqb-true, eq-eqb}
 use Rattle.folds.specs.Folds.{◌and◌}
-use Rattle.folds.proofs.Tests.{and_first_false, and_second_false}
+use Rattle.folds.proofs.Tests.{which, and_first_false, and_second_false}
 use Rattle.circuit.specs.declared.Kind.TheVariants.{And}
 use Rattle.circuit.specs.Gate.{gives}
 use Rattle.circuit.specs.Source001.{Partial, Has, Justification, Minimal, justifications_of_t1, minimal_of_t1, children_of_t1, ExampleIs001}
-use Rattle.circuit.proofs.Justification.{never, some_is, has_or_not, just, just_at, just_has}
+use Rattle.circuit.proofs.Justification.{never, some_is, has_or_not}
 
 abbrev Children : Partial → Type 0
 Children σ = (x : ℕ) (b : Bool) → Has σ x b → In x children_of_t1
@@ -25,6 +27,19 @@ Justifies σ = Justification (gives And) children_of_t1 false σ
 
 abbrev Off : Option Bool → Type 0
 Off o = o ≡ some false
+
+-- one gate alone has a value
+abbrev just : ℕ → Bool → Partial
+just x v y = cond (eqb y x) (some v) none
+
+just_at : (x : ℕ) (v : Bool) → Has (just x v) x v
+just_at x v = rw (eq-eqb x x refl)
+
+just_has : (x : ℕ) (v : Bool) (y : ℕ) (b : Bool) → Has (just x v) y b → (y ≡ x) × (v ≡ b)
+just_has x v y b e = elim (which (eqb y x)) [
+  | inl q ↦ (eqb-true y x q, some_is (rw q at e))
+  | inr q ↦ absurd (never (rw q at e))
+]
 
 -- ---- the two lists
 

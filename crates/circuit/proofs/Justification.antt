@@ -1,26 +1,27 @@
 -- 001's justifications, for any Boolean function: what partial assignments do, and the subset minimal justifications of two shapes of function.
---     One       a child with the value is enough, and there has to be one: AND at 0, OR at 1. A minimal justification is one child.
---     Each      every child counts, so that turning one alone takes the value away: AND at 1, OR at 0, NOT, XOR. It is all children.
+--     Enough    n children with the value are enough, and there have to be so many: AND, OR, voters. A minimal justification is n children at that value.
+--     Each      every child counts, so that turning one alone takes the value away: NOT, XOR. It is all children.
 -- Assumes nothing.
 use Prim.Native.Nat.{ℕ, ◌≤◌}
 use mathlib.Core.Path.{◌≡◌, refl, sym, ap, ◌∙◌}
 use mathlib.Core.Logic.{◌⊎◌, inl, inr, ◌↔◌}
-use mathlib.Core.Bool.{Bool, true, cond, not}
+use mathlib.Core.Bool.{Bool, true, cond, not, true≢false}
 use mathlib.Core.Option.{Option, none, some}
 use mathlib.Core.List.{List, map}
-use mathlib.Core.List.Memᴰ.{map as map-in}
-use mathlib.Core.List.Memᴰ.{of_map}
 use mathlib.Core.List.{Memᴰ as In}
+use mathlib.Core.List.Sublistᴰ.{trans as sub_trans}
 use mathlib.Core.List.{Sublistᴰ as Sub}
 use native.Mathlib.Omega.{arith}
 use lib.ListN.{length}
 use lib.Dec.{eqb}
-use borrow.Author.Tests.{eqb-true, eq-eqb, ne_eqb}
-use Rattle.folds.proofs.Tests.{which}
-use Rattle.circuit.specs.Tools.{same, member, Rising, is_empty}
+use borrow.Author.Tests.{eq-eqb, ne_eqb}
+use Rattle.folds.specs.Folds.{◌and◌}
+use Rattle.folds.proofs.Tests.{which, and_past, and_first_false}
+use Rattle.circuit.specs.Tools.{same, member, Rising, select, is_empty}
+use Rattle.circuit.specs.Gate.{wrong}
 use Rattle.circuit.specs.Source001.{Partial, Has, Extends, restrict, Justification, Minimal, contrary, changed, MoveOf}
-use Rattle.circuit.proofs.Values.{agree, unequal, same_true}
-use Rattle.circuit.proofs.Lists.{map_same, in_select, select_sub, is_empty_none, some_length, member_in, in_member}
+use Rattle.circuit.proofs.Values.{unequal, same_true, same_refl, same_swap}
+use Rattle.circuit.proofs.Lists.{map_same, select_in, in_select, select_sub, select_same, select_within, select_both, sub_length, sub_same, sub_in, some_of, is_empty_none, some_length, member_in, in_member, members}
 
 -- ---- partial assignments
 
@@ -55,18 +56,15 @@ module _ (τ : ℕ → Bool) (xs : List ℕ) where
     | inr q ↦ absurd (never (rw q at e))
   ]
 
--- one gate alone has a value
-abbrev pub just : ℕ → Bool → Partial
-just x v y = cond (eqb y x) (some v) none
+-- these gates have the value v
+abbrev pub all_at : Bool → List ℕ → Partial
+all_at v ys = restrict (λ x. v) ys
 
-pub just_at : (x : ℕ) (v : Bool) → Has (just x v) x v
-just_at x v = rw (eq-eqb x x refl)
+pub all_is : (v : Bool) (ys : List ℕ) (x : ℕ) → In x ys → Has (all_at v ys) x v
+all_is v ys x m = restrict_at (λ y. v) ys x m
 
-pub just_has : (x : ℕ) (v : Bool) (y : ℕ) (b : Bool) → Has (just x v) y b → (y ≡ x) × (v ≡ b)
-just_has x v y b e = elim (which (eqb y x)) [
-  | inl q ↦ (eqb-true y x q, some_is (rw q at e))
-  | inr q ↦ absurd (never (rw q at e))
-]
+pub all_has : (v : Bool) (ys : List ℕ) (x : ℕ) (b : Bool) → Has (all_at v ys) x b → In x ys × (v ≡ b)
+all_has v ys x b e = restrict_has (λ y. v) ys x b e
 
 -- τ with the value of x turned
 abbrev pub flip : ℕ → (ℕ → Bool) → ℕ → Bool
@@ -80,28 +78,15 @@ flip_other τ x y n = rw (ne_eqb y x n)
 
 -- ---- justifications
 
-abbrev pub One : (List Bool → Bool) → Bool → Type 0
-One f v = (vs : List Bool) → (f vs ≡ v) ↔ In v vs
+-- the children to which τ gives v
+abbrev pub having : Bool → (ℕ → Bool) → List ℕ → List ℕ
+having v τ xs = select (λ x. same (τ x) v) xs
+
+abbrev pub Enough : (List Bool → Bool) → Bool → List ℕ → ℕ → Type 0
+Enough f v xs n = (τ : ℕ → Bool) → (f (map τ xs) ≡ v) ↔ (n ≤ length (having v τ xs))
 
 abbrev pub Each : (List Bool → Bool) → Bool → Type 0
 Each f v = (τ : ℕ → Bool) (xs : List ℕ) (x : ℕ) → Rising xs → In x xs → f (map τ xs) ≡ v → f (map (flip x τ) xs) ≡ v → ⊥
-
-module _ (f : List Bool → Bool) (v : Bool) (h : One f v) (τ : ℕ → Bool) (xs : List ℕ) where
-  pub some_child : f (map τ xs) ≡ v → (x : ℕ) × In x xs × (τ x ≡ v)
-  some_child e = of_map τ xs ((h (map τ xs)).0 e)
-
-  pub enough : (x : ℕ) → In x xs → τ x ≡ v → f (map τ xs) ≡ v
-  enough x m e = (h (map τ xs)).1 (rw e at (map-in τ m))
-
-  -- for the other value, all children must have it
-  pub all_other : f (map τ xs) ≡ not v → (x : ℕ) → In x xs → τ x ≡ not v
-  all_other e x m = elim (agree v (τ x)) [ inl q ↦ absurd (unequal v v refl (sym e ∙ enough x m q)) | inr q ↦ q ]
-
-  pub other_all : ((x : ℕ) → In x xs → τ x ≡ not v) → f (map τ xs) ≡ not v
-  other_all g = elim (agree v (f (map τ xs))) [
-    | inl q ↦ (let (x, m, e) = some_child q in absurd (unequal v v refl (sym (g x m) ∙ e)))
-    | inr q ↦ q
-  ]
 
 module _ (f : List Bool → Bool) (v : Bool) (xs : List ℕ) where
   pub restrict_justifies : (τ : ℕ → Bool) → f (map τ xs) ≡ v → Justification f xs v (restrict τ xs)
@@ -129,31 +114,64 @@ module _ (f : List Bool → Bool) (v : Bool) (xs : List ℕ) where
         | inr w ↦ absurd (is_empty_none x (changed t.by at xs) q (in_select (λ y. contrary (t.by y) (at y)) x xs (t.minimal.justifies.children x b h) (rw (h, w))))
       ]
 
-  module _ (h : One f v) where
-    meets : (σ : Partial) → Justification f xs v σ → (x : ℕ) × In x xs × Has σ x v
+  module _ (n : ℕ) (h : Enough f v xs n) (r : Rising xs) where
+    -- n children at v are enough, whatever the others are
+    pub enough : (ys : List ℕ) → Sub ys xs → length ys ≡ n → (τ : ℕ → Bool) → ((y : ℕ) → In y ys → τ y ≡ v) → f (map τ xs) ≡ v
+    enough ys u e τ g =
+        let w = sub_length _ _ (select_within (λ x. member x ys) (λ x. same (τ x) v) xs (λ x m q. rw (g x (member_in x ys q)) (same_refl v))) in
+        (h τ).1 (omega (arith, e, w, ap length (members ys xs r u)))
+
+    -- every justification has n at v
+    pub meets : (σ : Partial) → Justification f xs v σ → (ys : List ℕ) × Sub ys xs × (length ys ≡ n) × ((y : ℕ) → In y ys → Has σ y v)
     meets σ j =
-        let (x, m, q) = some_child f v h (fill σ (λ y. not v)) xs (j.forces _ (fill_extends σ (λ y. not v))) in
-        elim (has_or_not (σ x)) [
-          | inl n ↦ absurd (unequal v v refl (rw n at q))
-          | inr w ↦ (x, m, w.1 ∙ ap some (rw w.1 at q))
+        let τ = fill σ (λ y. not v) in
+        let (ys, u, e) = some_of n (having v τ xs) ((h τ).0 (j.forces τ (fill_extends σ (λ y. not v)))) in (
+          ys,
+          sub_trans u (select_sub (λ x. same (τ x) v) xs),
+          e,
+          λ y m. (
+              let q : τ y ≡ v = same_true (τ y) v (select_in (λ x. same (τ x) v) y xs (sub_in y ys _ u m)).1 in
+              elim (has_or_not (σ y)) [ inl w ↦ absurd (unequal v v refl (rw w at q)) | inr w ↦ w.1 ∙ ap some (rw w.1 at q) ]),
+        )
+
+    all_justify : (ys : List ℕ) → Sub ys xs → length ys ≡ n → Justification f xs v (all_at v ys)
+    all_justify ys u e = record {
+      children = λ x b w. sub_in x ys xs u (all_has v ys x b w).0;
+      forces = λ τ g. enough ys u e τ (λ y m. g y v (all_is v ys y m));
+    }
+
+    pub all_minimal : (ys : List ℕ) → Sub ys xs → length ys ≡ n → Minimal f xs v (all_at v ys)
+    all_minimal ys u e = record {
+      justifies = all_justify ys u e;
+      no_smaller = λ ρ j k x b w. (
+          let (zs, t, q, g) = meets ρ j in
+          let (m, d) = all_has v ys x b w in
+          let within = select_within (λ y. member y zs) (λ y. member y ys) xs (λ y i p. in_member y ys (all_has v ys y v (k y v (g y (member_in y zs p)))).0) in
+          let z : zs ≡ ys = sub_same zs ys (rw (members zs xs r t, members ys xs r u) at within) (q ∙ sym e) in
+          g x (rw (sym z) at m) ∙ ap some d);
+    }
+
+    -- and a minimal one has nothing else
+    pub minimal_all : (σ : Partial) → Minimal f xs v σ
+        → (ys : List ℕ) × Sub ys xs × (length ys ≡ n) × ((y : ℕ) → In y ys → Has σ y v) × ((x : ℕ) (b : Bool) → Has σ x b → In x ys × (v ≡ b))
+    minimal_all σ j =
+        let (ys, u, e, g) = meets σ j.justifies in
+        (ys, u, e, g, λ x b w. all_has v ys x b (j.no_smaller (all_at v ys) (all_justify ys u e) (λ y d q. (let (m, c) = all_has v ys y d q in g y m ∙ ap some c)) x b w))
+
+    -- the children that it changes are those of the n that have not the value
+    pub changed_wrong : (at : ℕ → Bool) (σ : Partial) (ys : List ℕ) → Sub ys xs → ((y : ℕ) → In y ys → Has σ y v) → ((x : ℕ) (b : Bool) → Has σ x b → In x ys × (v ≡ b))
+        → changed σ at xs ≡ wrong v at ys
+    changed_wrong at σ ys u g o =
+        select_same _ _ xs each_child ∙ sym (select_both (λ x. member x ys) (λ x. not (same (at x) v)) xs) ∙ ap (wrong v at) (members ys xs r u)
+      where
+        each_child : (x : ℕ) → In x xs → contrary (σ x) (at x) ≡ (member x ys and not (same (at x) v))
+        each_child x m = elim (which (member x ys)) [
+          | inl q ↦ rw (g x (member_in x ys q), same_swap v (at x)) (sym (and_past _ _ q))
+          | inr q ↦ elim (has_or_not (σ x)) [
+            | inl w ↦ rw w (sym (and_first_false _ _ q))
+            | inr w ↦ absurd (true≢false (sym (in_member x ys (o x w.0 w.1).0) ∙ q))
+          ]
         ]
-
-    one_justifies : (x : ℕ) → In x xs → Justification f xs v (just x v)
-    one_justifies x m = record {
-      children = λ y b e. rw (just_has x v y b e).0 m;
-      forces = λ τ g. enough f v h τ xs x m (g x v (just_at x v));
-    }
-
-    pub one_minimal : (x : ℕ) → In x xs → Minimal f xs v (just x v)
-    one_minimal x m = record {
-      justifies = one_justifies x m;
-      no_smaller = λ ρ j u y b e. (let (z, i, w) = meets ρ j in let p = just_has x v y b e in let q = just_has x v z v (u z v w) in rw (p.0, ← q.0, ← p.1) w);
-    }
-
-    pub one_only : (σ : Partial) → Minimal f xs v σ → (x : ℕ) × In x xs × Has σ x v × ((y : ℕ) (b : Bool) → Has σ y b → y ≡ x)
-    one_only σ j =
-        let (x, m, w) = meets σ j.justifies in
-        (x, m, w, λ y b e. (just_has x v y b (j.no_smaller (just x v) (one_justifies x m) (λ z d q. (let p = just_has x v z d q in rw (p.0, ← p.1) w)) y b e)).0)
 
   module _ (h : Each f v) (r : Rising xs) where
     pub total : (σ : Partial) → Justification f xs v σ → (x : ℕ) → In x xs → (b : Bool) × Has σ x b

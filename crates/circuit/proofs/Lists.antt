@@ -11,8 +11,10 @@ use mathlib.Core.List.Memᴰ.{cases_cons as cases}
 use mathlib.Core.List.Memᴰ.{head as here}
 use mathlib.Core.List.Memᴰ.{not-nil as nowhere}
 use mathlib.Core.List.Memᴰ.{tail as there}
+use mathlib.Core.List.Memᴰ.{map as map-in, of_map}
 use mathlib.Core.List.{Memᴰ as In}
 use mathlib.Core.List.Sublistᴰ.{cons as skip}
+use mathlib.Core.List.Sublistᴰ.{nil-sublist}
 use mathlib.Core.List.Sublistᴰ.{cons-cons as with}
 use mathlib.Core.List.Sublistᴰ.{slnil as done}
 use mathlib.Core.List.{Sublistᴰ as Sub}
@@ -22,9 +24,10 @@ use native.Mathlib.Numerals.{add-one}
 use lib.ListN.{length, get_or, take, length-append, length-map, get_or-append}
 use lib.Seq.{get_or_at, take-suc}
 use lib.Dec.{eqb, leb}
-use borrow.Author.Tests.{eqb-true, eqb-false, eq-eqb, leb-true, leb-false}
-use Rattle.folds.proofs.Tests.{which, and_left, and_right, and_both, and_past, or_cases, or_first, or_second}
-use Rattle.circuit.specs.Tools.{byte, up_to, member, Rising, Distinct, singles, select, holds_of_all, is_empty, pick}
+use borrow.Author.Tests.{eqb-true, eqb-false, eq-eqb, ne_eqb, leb-true, leb-false}
+use Rattle.folds.specs.Folds.{◌and◌}
+use Rattle.folds.proofs.Tests.{which, and_left, and_right, and_both, and_past, or_cases, or_first, or_second, or_past}
+use Rattle.circuit.specs.Tools.{byte, up_to, member, Rising, Distinct, singles, pairs, select, holds_of_all, is_empty, pick}
 
 module _ {A : Type 0} (p : A → Bool) where
   -- what `select` keeps
@@ -66,6 +69,26 @@ module _ {A : Type 0} (p : A → Bool) where
   pub select_same : (q : A → Bool) (xs : List A) → ((x : A) → In x xs → p x ≡ q x) → select p xs ≡ select q xs
   select_same q [] f = refl
   select_same q (x ∷ xs) f = rw (f x (here refl), select_same q xs (λ y m. f y (there m)))
+
+  pub select_within : (q : A → Bool) (xs : List A) → ((x : A) → In x xs → p x ≡ true → q x ≡ true) → Sub (select p xs) (select q xs)
+  select_within q [] f = done
+  select_within q (x ∷ xs) f =
+      let u = select_within q xs (λ y m. f y (there m)) in
+      elim (which (p x)) [
+        | inl a ↦ rw (a, f x (here refl) a) (with refl u)
+        | inr a ↦ elim (which (q x)) [ inl b ↦ rw (a, b) (skip u) | inr b ↦ rw (a, b) u ]
+      ]
+
+  pub select_both : (q : A → Bool) (xs : List A) → select q (select p xs) ≡ select (λ x. p x and q x) xs
+  unfolding ◌and◌
+  select_both q [] = refl
+  select_both q (x ∷ xs) = elim (which (p x)) [
+    | inl a ↦ elim (which (q x)) [
+      | inl b ↦ rw (a, b) (ap (λ (l : List A). x ∷ l) (select_both q xs))
+      | inr b ↦ rw (a, b) (select_both q xs)
+    ]
+    | inr a ↦ rw a (select_both q xs)
+  ]
 
   pub all_in : (xs : List A) → holds_of_all p xs ≡ true → (x : A) → In x xs → p x ≡ true
   all_in [] e x m = absurd (nowhere m)
@@ -118,6 +141,11 @@ module _ {A : Type 0} where
   sub_length o (y ∷ ys) (skip u) = omega (arith, sub_length o ys u)
   sub_length (z ∷ o) (y ∷ ys) (with e u) = omega (arith, sub_length o ys u)
 
+  pub sub_same : (o xs : List A) → Sub o xs → length o ≡ length xs → o ≡ xs
+  sub_same o xs done e = refl
+  sub_same o (y ∷ ys) (skip u) e = absurd (omega (arith, sub_length o ys u))
+  sub_same (z ∷ o) (y ∷ ys) (with q u) e = cc (q, sub_same o ys u (omega arith))
+
   pub at_place : (d : A) (xs : List A) (i : ℕ) → i < length xs → In (get_or xs i d) xs
   at_place d [] i h = absurd (omega arith)
   at_place d (x ∷ xs) zero h = here refl
@@ -135,6 +163,33 @@ module _ {A : Type 0} where
   sub_in x o xs done m = m
   sub_in x o (y ∷ ys) (skip u) m = there (sub_in x o ys u m)
   sub_in x (z ∷ o) (y ∷ ys) (with e u) m = elim (cases m) [ inl q ↦ here (q ∙ e) | inr n ↦ there (sub_in x o ys u n) ]
+
+  pub sub_one : (x : A) (xs : List A) → In x xs → Sub (x ∷ []) xs
+  sub_one x [] m = absurd (nowhere m)
+  sub_one x (y ∷ ys) m = elim (cases m) [ inl e ↦ with e (nil-sublist ys) | inr n ↦ skip (sub_one x ys n) ]
+
+  -- n elements of a list
+  pub some_of : (n : ℕ) (xs : List A) → n ≤ length xs → (ys : List A) × Sub ys xs × (length ys ≡ n)
+  some_of zero xs l = ([], nil-sublist xs, refl)
+  some_of (suc n) [] l = absurd (omega arith)
+  some_of (suc n) (x ∷ xs) l = (let (ys, u, e) = some_of n xs (omega arith) in (x ∷ ys, with refl u, ap suc e))
+
+  -- the same with x among them
+  pub some_with : (x : A) (n : ℕ) (xs : List A) → In x xs → n < length xs → (ys : List A) × Sub ys xs × (length ys ≡ suc n) × In x ys
+  some_with x zero xs m l = (x ∷ [], sub_one x xs m, refl, here refl)
+  some_with x (suc n) [] m l = absurd (nowhere m)
+  some_with x (suc n) (y ∷ ys) m l = elim (cases m) [
+    | inl e ↦ (let (zs, u, q) = some_of (suc n) ys (omega arith) in (y ∷ zs, with refl u, ap suc q, here e))
+    | inr i ↦ (let (zs, u, q, j) = some_with x n ys i (omega arith) in (y ∷ zs, with refl u, ap suc q, there j))
+  ]
+
+  pub two_long : (x y : A) (xs : List A) → In x xs → In y xs → (x ≡ y → ⊥) → 2 ≤ length xs
+  two_long x y [] m n d = absurd (nowhere m)
+  two_long x y (z ∷ []) m n d = elim (cases m) [
+    | inl e ↦ elim (cases n) [ inl w ↦ absurd (d (e ∙ sym w)) | inr i ↦ absurd (nowhere i) ]
+    | inr i ↦ absurd (nowhere i)
+  ]
+  two_long x y (z ∷ w ∷ xs) m n d = omega arith
 
   -- an element stands at a place
   pub place : (d x : A) (xs : List A) → In x xs → (i : ℕ) × (i < length xs) × (get_or xs i d ≡ x)
@@ -168,9 +223,27 @@ pub singles_length : (xs : List ℕ) → length (singles xs) ≡ length xs
 singles_length [] = refl
 singles_length (x ∷ xs) = ap suc (singles_length xs)
 
+pub singles_map : (xs : List ℕ) → singles xs ≡ map (λ x. x ∷ []) xs
+singles_map [] = refl
+singles_map (x ∷ xs) = ap (λ (l : List (List ℕ)). (x ∷ []) ∷ l) (singles_map xs)
+
 pub singles_distinct : (xs : List ℕ) → Rising xs → Distinct (singles xs)
 singles_distinct [] r = tt
 singles_distinct (x ∷ xs) r = (λ m. (let (y, i, q) = singles_out (x ∷ []) xs m in let e : x ≡ y = cc in omega (arith, r.0 y i)), singles_distinct xs r.1)
+
+pub pairs_in : (o xs : List ℕ) → Sub o xs → length o ≡ 2 → In o (pairs xs)
+pairs_in o xs done e = absurd (omega arith)
+pairs_in o (x ∷ xs) (skip u) e = append_right _ (pairs_in o xs u e)
+pairs_in (y ∷ []) (x ∷ xs) (with q u) e = absurd (omega arith)
+pairs_in (y ∷ z ∷ []) (x ∷ xs) (with q u) e = rw q (append_left _ (map-in (λ w. x ∷ w ∷ []) (sub_in z (z ∷ []) xs u (here refl))))
+pairs_in (y ∷ z ∷ w ∷ o) (x ∷ xs) (with q u) e = absurd (omega arith)
+
+pub pairs_out : (o xs : List ℕ) → In o (pairs xs) → Sub o xs × (length o ≡ 2)
+pairs_out o [] m = absurd (nowhere m)
+pairs_out o (x ∷ xs) m = elim (append_cases (map (λ y. x ∷ y ∷ []) xs) m) [
+  | inl a ↦ (let (y, i, e) = of_map (λ y. x ∷ y ∷ []) xs a in rw (← e) (with refl (sub_one y xs i), refl))
+  | inr b ↦ (skip (pairs_out o xs b).0, (pairs_out o xs b).1)
+]
 
 -- a rising list has an element once
 pub select_one : (p : ℕ → Bool) (xs : List ℕ) (x : ℕ) → Rising xs → In x xs → p x ≡ true → ((y : ℕ) → In y xs → (y ≡ x → ⊥) → p y ≡ false) → select p xs ≡ x ∷ []
@@ -208,6 +281,17 @@ in_member x (y ∷ ys) m = elim (cases m) [
   | inl e ↦ or_first (eqb x y) (member x ys) (eq-eqb x y e)
   | inr n ↦ or_second (eqb x y) (member x ys) (in_member x ys n)
 ]
+
+pub out : (x : ℕ) (xs : List ℕ) → (In x xs → ⊥) → member x xs ≡ false
+out x xs n = elim (which (member x xs)) [ inl q ↦ absurd (n (member_in x xs q)) | inr q ↦ q ]
+
+-- a rising list's sublist is its elements that are in it
+pub members : (o xs : List ℕ) → Rising xs → Sub o xs → select (λ x. member x o) xs ≡ o
+members o xs r done = refl
+members o (x ∷ xs) r (skip u) = rw (out x o (λ m. (let l = r.0 x (sub_in x o xs u m) in omega arith))) (members o xs r.1 u)
+members (y ∷ o) (x ∷ xs) r (with e u) =
+    let behind = select_same _ _ xs (λ z m. or_past (eqb z y) (member z o) (ne_eqb z y (λ q. (let l = r.0 z m in omega arith)))) ∙ members o xs r.1 u in
+    rw (or_first (eqb x y) (member x o) (eq-eqb x y (sym e))) (cc (sym e, behind))
 
 pub in_up_to : (x n : ℕ) → In x (up_to n) → x < n
 in_up_to x zero m = absurd (nowhere m)

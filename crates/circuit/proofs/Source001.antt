@@ -1,26 +1,30 @@
 -- Document 01's justified gates and down options are those of source document 001. Assumes nothing.
 use Prim.Native.Nat.{ℕ, ◌<◌}
-use mathlib.Core.Path.{◌≡◌, sym, ap, ◌∙◌}
+use mathlib.Core.Path.{◌≡◌, refl, sym, ap, ◌∙◌}
 use mathlib.Core.Logic.{inl, inr}
-use mathlib.Core.Bool.{Bool, false, true≢false}
-use mathlib.Core.List.{List}
+use mathlib.Core.Bool.{Bool, false, not, true≢false, not-not}
+use mathlib.Core.List.{List, [], ◌∷◌}
+use mathlib.Core.List.Memᴰ.{head as here}
+use mathlib.Core.List.Memᴰ.{tail as there}
+use mathlib.Core.List.Memᴰ.{map as map-in}
 use mathlib.Core.List.{Memᴰ as In}
 use native.Mathlib.Omega.{arith}
 use lib.ListN.{length, get_or}
 use lib.Dec.{eqb}
 use Rattle.folds.proofs.Tests.{which}
-use Rattle.circuit.specs.Tools.{same}
-use Rattle.circuit.specs.Gate.{is_input, gives}
+use Rattle.circuit.specs.Tools.{same, select}
+use Rattle.circuit.specs.Gate.{is_input, gives, wrong, order}
 use Rattle.circuit.specs.Circuit.{Circuit, WellFormed, Configuration, on, justified, GateZeroIsInput}
 use Rattle.circuit.specs.Run.{down_options, turn}
-use Rattle.circuit.specs.Source001.{Extends, contrary, MoveOf, Smallest, first, then, IsClosed, SmallestIs, TurnsExactly, JustifiedIs001, DownOptionsAre001, DownOptionsInOrder, Justifies, OptionsJustify}
-use Rattle.circuit.proofs.Values.{opposite, same_true, same_false}
-use Rattle.circuit.proofs.Lists.{at_place, select_in, in_select}
+use Rattle.circuit.specs.Source001.{Extends, contrary, MoveOf, Smallest, first, then, IsClosed, SmallestIs, TurnsExactly, JustifiedIs001, DownOptionsAre001, DownOptionsInOrder, Justifies, OptionsJustify, PairsAreSet}
+use Rattle.circuit.proofs.Values.{agree, opposite, same_true, same_false, same_refl, same_not}
+use Rattle.circuit.proofs.Lists.{at_place, select_in, in_select, select_length}
 use Rattle.circuit.proofs.Justification.{restrict_has, restrict_justifies}
-use Rattle.circuit.proofs.Gate.{laws, narrow}
+use Rattle.circuit.proofs.Shapes.{stands_in}
+use Rattle.circuit.proofs.Gate.{fans, narrow, laws}
 use Rattle.circuit.proofs.Evaluate.{agrees, justify}
 use Rattle.circuit.proofs.Cone.{unjustified_seen}
-use Rattle.circuit.proofs.Turns.{turn_turns, option_kid, option_once}
+use Rattle.circuit.proofs.Turns.{turn_turns, option_sound, option_kid, option_once}
 
 smallest_in : (First : ℕ → Type 0) (Next : ℕ → ℕ → Type 0) (S : ℕ → Type 0) → IsClosed First Next S → (x : ℕ) → Smallest First Next x → S x
 smallest_in First Next S k x (first f) = k.has x f
@@ -52,7 +56,7 @@ pub down_options_in_order : DownOptionsInOrder
 unfolding down_options
 down_options_in_order c ok s g h u =
     let e = unjustified_seen c ok s g h u in
-    (laws (c.kind g) (on s g) e.gate).order (on s) (c.kids g) e
+    stands_in (order (c.kind g) (on s g)) (on s g) (on s) (c.kids g) (fans (c.kind g) (on s g) e.gate (length (c.kids g)) e.fits)
 
 -- a gate that is no input has a child below it
 pub gate_zero : GateZeroIsInput
@@ -95,3 +99,28 @@ module _ (c : Circuit) (ok : WellFormed c) (s : List ℕ) (k : Configuration c s
 
 pub options_justify : OptionsJustify
 options_justify = option_justifies
+
+-- a pair of children is set to its gate's value
+pub pairs_are_set : PairsAreSet
+unfolding down_options
+pairs_are_set c ok s k g h u q x y i = record {
+  is_option = is_option;
+  first = set x (here refl);
+  second = set y (there (here refl));
+  turned = ((option_sound c ok s g h u o is_option).1, select_length is_wrong (x ∷ y ∷ []));
+}
+  where
+    is_wrong : ℕ → Bool
+    is_wrong z = not (same (on s z) (on s g))
+
+    o : List ℕ
+    o = select is_wrong (x ∷ y ∷ [])
+
+    is_option : In o (down_options c s g)
+    is_option = rw q (map-in (wrong (on s g) (on s)) i)
+
+    set : (z : ℕ) → In z (x ∷ y ∷ []) → on (turn o s) z ≡ on s g
+    set z j = elim (agree (on s g) (on s z)) [
+      | inl e ↦ stands c ok s k g h u o is_option z (λ n. true≢false (sym (select_in is_wrong z (x ∷ y ∷ []) n).1 ∙ rw (e, same_refl (on s g)))) ∙ e
+      | inr e ↦ (turns c ok s k g h u o is_option).these z (in_select is_wrong z (x ∷ y ∷ []) j (rw (e, same_not (on s g)))) ∙ ap not e ∙ not-not (on s g)
+    ]

@@ -21,7 +21,7 @@ use Rattle.circuit.specs.Promise.{NoFront, StuckAt, EntryDoes, config, differenc
 use Rattle.circuit.proofs.Lists.{some_length, at_place}
 use Rattle.circuit.proofs.Found.{answer_is, free_satisfies, answer_satisfies}
 use Rattle.circuit.proofs.Gate.{functions}
-use Rattle.circuit.proofs.Source001.{justified_is, smallest_is, down_options_are, down_options_in_order, options_justify}
+use Rattle.circuit.proofs.Source001.{justified_is, smallest_is, down_options_are, down_options_in_order, pairs_are_set, options_justify}
 use Rattle.circuit.proofs.Survey.{relevant_is, inputs_in_order, differ_is, survey_is}
 use Rattle.circuit.proofs.Turns.{options_left_are}
 use Rattle.circuit.proofs.Moves.{greedy_options_are, no_front, some_front, stuck_is, not_stuck_at, entry_does}
@@ -290,6 +290,7 @@ demand2_on_circuits = record {
   surveys = survey_is;
   options = down_options_are;
   order = down_options_in_order;
+  pairs = pairs_are_set;
   justify = options_justify;
   left = options_left_are;
   greedy = greedy_options_are;

@@ -5,6 +5,7 @@ use mathlib.Core.Logic.{◌⊎◌, inl, inr}
 use mathlib.Core.Bool.{Bool, true, false, not, true≢false, not-not}
 use native.Mathlib.Omega.{arith}
 use lib.Dec.{eqb}
+use Rattle.std.proofs.Math.Bool.{beq}
 use mir.Val.{bool_byte}
 use Rattle.circuit.specs.Tools.{byte, same}
 
@@ -45,6 +46,13 @@ same_swap false false = refl
 pub same_not : (b : Bool) → same (not b) b ≡ false
 same_not true = refl
 same_not false = refl
+
+-- what code compares two values by
+pub beq_same : (a b : Bool) → beq a b ≡ same a b
+beq_same true true = refl
+beq_same true false = refl
+beq_same false true = refl
+beq_same false false = refl
 
 -- ---- bytes
 

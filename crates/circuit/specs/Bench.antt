@@ -5,7 +5,7 @@ use Rattle.std.proofs.Math.Option.{none, some}
 use Rattle.circuit.specs.declared.Choice.{Choice}
 use Rattle.circuit.specs.declared.Choice.TheVariants.{Greedy, Down, Up}
 use Rattle.circuit.specs.declared.Ending.TheVariants.{Found, Spent, Stuck}
-use Rattle.circuit.specs.declared.Kind.TheVariants.{Input, Not, And, Or, Xor}
+use Rattle.circuit.specs.declared.Kind.TheVariants.{Input, Not, And, Or, Xor, Voter}
 use Rattle.circuit.specs.Circuit.{Circuit}
 use Rattle.circuit.specs.Evaluate.{evaluate, mark, differ}
 use Rattle.circuit.specs.Survey.{survey}
@@ -126,6 +126,15 @@ all = record {
   code = λ g. cond (eqb g 3) (some true) none;
 }
 
+-- 0, 1, 2 inputs; 3 a voter of 0, 1, 2; code 3 = 1
+unfoldable pub vote : Circuit
+vote = record {
+  gates = 4;
+  kind = λ g. get_or (Input ∷ Input ∷ Input ∷ Voter ∷ []) g Input;
+  kids = λ g. get_or ([] ∷ [] ∷ [] ∷ (0 ∷ pair 1 2) ∷ []) g [];
+  code = λ g. cond (eqb g 3) (some true) none;
+}
+
 -- "every draw is 0; "down 3" is kind down with option 3"
 abbrev pub entry : Choice → Entry
 entry h = record { draw = 0; choice = h }
@@ -151,6 +160,13 @@ pub record Examples : Type 0 where
   -- AND at 1 turns its wrong children and no other; XOR has an option for each child.
   pub and_wrong_alone : down_options circuit_p9 (1 ∷ 0 ∷ 1 ∷ []) 2 ≡ one 1 ∷ []
   pub xor_options : down_options adder A 3 ≡ one 0 ∷ one 1 ∷ []
+  -- F-3: a voter is 1 when two of its children are, and not when one is; of its children those with its value count.
+  pub voter_by_two : evaluate vote (1 ∷ 0 ∷ 1 ∷ []) ≡ 1 ∷ 0 ∷ 1 ∷ 1 ∷ []
+  pub voter_by_one : evaluate vote (0 ∷ 1 ∷ 0 ∷ []) ≡ 0 ∷ 1 ∷ 0 ∷ 0 ∷ []
+  pub voter_at_one : survey vote (1 ∷ 0 ∷ 1 ∷ 1 ∷ []) ≡ 1 ∷ 0 ∷ 1 ∷ 1 ∷ []
+  -- Its options are the pairs in their order, and a pair with a child that is right turns the other alone.
+  pub voter_pairs : down_options vote (0 ∷ 0 ∷ 0 ∷ 1 ∷ []) 3 ≡ pair 0 1 ∷ pair 0 2 ∷ pair 1 2 ∷ []
+  pub voter_turns_one : down_options vote (0 ∷ 1 ∷ 0 ∷ 1 ∷ []) 3 ≡ one 0 ∷ pair 0 2 ∷ one 2 ∷ []
   -- An option is turned whole.
   pub turns_all_wrong : entry_turns all (0 ∷ 0 ∷ 0 ∷ 1 ∷ []) (entry (Down 0)) ≡ 0 ∷ pair 1 2
   -- A draw of 4 from a front of three: the gate at place 1.

@@ -26,7 +26,7 @@ abbrev pub gates_in : Circuit → (ℕ → Bool) → List ℕ
 gates_in c p = select p (up_to c.gates)
 
 -- What Check demands of a map, as far as searching goes by it.
---     fits      "Fan-in: 0 for an input, 1 for NOT, 2 for XOR, 2 to 8 for AND and OR."
+--     fits      "Fan-in: 0 for an input, 1 for NOT, 2 for XOR, 2 to 8 for AND and OR." F-3: "kind 5, with fan-in 3 only"
 --     below     "It is below its parent's number"
 --     rising    "a gate's children strictly ascend"
 -- "a coded gate may now be a child" (F-1): of codes nothing is demanded.

@@ -1,4 +1,4 @@
--- Demands 2 and 3 of document 00 and request F-1 of document 02 as lemmas about circuits; proofs/Moves.antt, proofs/Trace.antt, proofs/Finish.antt and proofs/Unchanged.antt prove
+-- Demands 2 and 3 of document 00 and requests F-1 and F-3 of document 02 as lemmas about circuits; proofs/Moves.antt, proofs/Trace.antt, proofs/Finish.antt and proofs/Unchanged.antt prove
 -- them. The demands themselves speak of Run on bytes. Assumes nothing.
 use Rattle.std.specs.Prelude.{ℕ, zero, suc, ◌+◌, ◌≤◌, ◌<◌, ◌%◌, ◌≡◌, ◌⊎◌, ◌↔◌, Bool, true, false, cond, length, get_or}
 use mathlib.Core.List.{List, [], ◌∷◌, map, Memᴰ as In, Sublistᴰ as InOrder}
@@ -12,7 +12,7 @@ use Rattle.circuit.specs.Evaluate.{Obeys, Satisfying, Satisfiable, KeepsCodes, d
 use Rattle.circuit.specs.Survey.{front, front_size, interest_size}
 use Rattle.circuit.specs.declared.Entry.{Entry}
 use Rattle.circuit.specs.Run.{drawn, down_options, options_left, turn, greedy_options, Chosen, option, itself, stuck, entry_chosen, entry_turns, move, EndingValues, told, RunResult, ends_found, stop, after, run, answer}
-use Rattle.circuit.specs.Source001.{OptionOf, Cone, Front, TurnsExactly, Size, SmallestIs, Functions, JustifiedIs001, RelevantIs001, DownOptionsAre001, DownOptionsInOrder, OptionsJustify, InputsInOrder, DifferIs, SurveyIs001}
+use Rattle.circuit.specs.Source001.{OptionOf, Cone, Front, TurnsExactly, Size, SmallestIs, Functions, JustifiedIs001, RelevantIs001, DownOptionsAre001, DownOptionsInOrder, PairsAreSet, OptionsJustify, InputsInOrder, DifferIs, SurveyIs001}
 
 abbrev pub NoFront : Circuit → List ℕ → Type 0
 NoFront c s = (g : ℕ) → ¬ Front c s g
@@ -215,11 +215,12 @@ abbrev pub RunPromised : Circuit → List ℕ → List Entry → RunResult → T
 RunPromised c s es r = Promised c s es (config c s es) (told r.outcome.ending) r.outcome.moves r.outcome.flips r.last
 
 -- Demand 2 on circuits.
---     functions, justified           "NOT, AND, OR and XOR mean what 001 says", and so does justified
+--     functions, justified           "NOT, AND, OR and XOR mean what 001 says", a voter what F-3 says, and so does justified
 --     relevant                       the parts of subset-minimal justifications
 --     smallest                       what a smallest set is, for the cone
 --     surveys                        "Cone, front and interest set are those of source document 001, save two differences"
---     options, order, justify        the down options are 001's, in document 01's order; each justifies its gate, and `turn` turns just its gates
+--     options, order, pairs,         the down options are 001's, in the order of documents 01 and 02; each of F-3's pairs sets both; each option justifies its gate, and
+--     justify                        `turn` turns just its gates
 --     left, greedy                   which of them are left, and what greedy picks from
 --     inputs                         the list of inputs that rows go by has exactly these, by gate number
 --     answers, free                  what Found writes, and that inputs outside the cone are free
@@ -233,6 +234,7 @@ pub record Demand2OnCircuits : Type 1 where
   pub surveys : SurveyIs001
   pub options : DownOptionsAre001
   pub order : DownOptionsInOrder
+  pub pairs : PairsAreSet
   pub justify : OptionsJustify
   pub left : OptionsLeftAre
   pub greedy : GreedyOptionsAre

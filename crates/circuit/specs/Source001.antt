@@ -1,13 +1,14 @@
 -- Section 2 of source document 001 in its own words: justification, cone, front, interest set; and, of section 3, the move of a justification.
--- Document 01's two differences are marked. After it, as statements, that document 01's functions, tables, options and survey are these:
+-- Document 01's two differences are marked. 001 has no voters, but its notions are for any Boolean function ("can be adapted for a wider range of types"). After it, as statements, that the functions,
+-- tables, options and survey of documents 01 and 02 are these:
 -- proofs/Gate.antt, proofs/Source001.antt and proofs/Survey.antt prove them.
 -- Assumes nothing.
-use Rattle.std.specs.Prelude.{ℕ, ◌+◌, ◌*◌, ◌<◌, ◌≡◌, ◌⊎◌, ◌↔◌, Bool, true, false, cond, not, length, get_or}
+use Rattle.std.specs.Prelude.{ℕ, ◌+◌, ◌*◌, ◌≤◌, ◌<◌, ◌≡◌, ◌⊎◌, ◌↔◌, Bool, true, false, cond, not, length, get_or}
 use Rattle.std.proofs.Math.Option.{Option, none, some}
 use mathlib.Core.List.{List, [], ◌∷◌, map, Memᴰ as In}
-use Rattle.circuit.specs.Tools.{byte, same, member, Rising, Distinct, singles, select}
-use Rattle.circuit.specs.declared.Kind.TheVariants.{Not, And, Or, Xor}
-use Rattle.circuit.specs.Gate.{is_input, gives, wrong}
+use Rattle.circuit.specs.Tools.{byte, same, member, Rising, Distinct, pairs, select}
+use Rattle.circuit.specs.declared.Kind.TheVariants.{Not, And, Or, Xor, Voter}
+use Rattle.circuit.specs.Gate.{is_input, gives, wrong, Order, together, singly, in_pairs, order}
 use Rattle.circuit.specs.Circuit.{Circuit, coded, WellFormed, Configuration, on, justified}
 use Rattle.circuit.specs.Evaluate.{inputs, differ}
 use Rattle.circuit.specs.Survey.{reasons, cone, in_front, front, interest, survey, front_size, interest_size}
@@ -153,12 +154,18 @@ SmallestIs =
     (First : ℕ → Type 0) (Next : ℕ → ℕ → Type 0)
     → IsClosed First Next (Smallest First Next) × ((S : ℕ → Type 0) → IsClosed First Next S → (x : ℕ) → Smallest First Next x → S x)
 
--- "NOT(v) is t iff v is f", "OR(..) is t iff at least one of .. is t", "AND(..) is t iff all .. are t", "XOR(..) is t iff exactly one of .. is t"
+-- at least two of three are so
+abbrev pub AtLeastTwo : Type 0 → Type 0 → Type 0 → Type 0
+AtLeastTwo A B C = (A × B) ⊎ (A × C) ⊎ (B × C)
+
+-- "NOT(v) is t iff v is f", "OR(..) is t iff at least one of .. is t", "AND(..) is t iff all .. are t", "XOR(..) is t iff exactly one of .. is t". F-3: "Kind 5 has three
+-- children and is 1 when at least two are 1."
 pub record Functions : Type 0 where
   pub not_is : (b : Bool) → (gives Not (b ∷ []) ≡ true) ↔ (b ≡ false)
   pub or_is : (vs : List Bool) → (gives Or vs ≡ true) ↔ In true vs
   pub and_is : (vs : List Bool) → (gives And vs ≡ true) ↔ ((b : Bool) → In b vs → b ≡ true)
   pub xor_is : (a b : Bool) → (gives Xor (a ∷ b ∷ []) ≡ true) ↔ (((a ≡ true) × (b ≡ false)) ⊎ ((a ≡ false) × (b ≡ true)))
+  pub voter_is : (a b c : Bool) → (gives Voter (a ∷ b ∷ c ∷ []) ≡ true) ↔ AtLeastTwo (a ≡ true) (b ≡ true) (c ≡ true)
 
 -- Document 01's justified gates are 001's.
 abbrev pub JustifiedIs001 : Type 0
@@ -177,11 +184,30 @@ DownOptionsAre001 =
     (c : Circuit) → WellFormed c → (s : List ℕ) (g : ℕ) → g < c.gates → justified c s g ≡ false
     → ((o : List ℕ) → In o (down_options c s g) ↔ OptionOf c s g o) × Distinct (down_options c s g)
 
--- Their order is document 01's own: "numbered from 0: .. a single option that turns every wrong child; .. one per child in order".
+-- Options os, of a gate with value v and children xs, stand in an order that the documents name: "numbered from 0: .. a single option that turns every wrong child; .. one per
+-- child in order". F-3: "the pairs first-second, first-third, second-third, each setting both to the voter's value; so an option may turn one or two children"
+abbrev pub StandIn : Order → Bool → (ℕ → Bool) → List ℕ → List (List ℕ) → Type 0
+StandIn together v at xs os = os ≡ wrong v at xs ∷ []
+StandIn singly v at xs os = os ≡ map (λ x. x ∷ []) xs
+StandIn in_pairs v at xs os = (x y z : ℕ) × (xs ≡ x ∷ y ∷ z ∷ []) × (os ≡ wrong v at (x ∷ y ∷ []) ∷ wrong v at (x ∷ z ∷ []) ∷ wrong v at (y ∷ z ∷ []) ∷ [])
+
+-- A gate's kind and value tell in which.
 abbrev pub DownOptionsInOrder : Type 0
 DownOptionsInOrder =
     (c : Circuit) → WellFormed c → (s : List ℕ) (g : ℕ) → g < c.gates → justified c s g ≡ false
-    → (down_options c s g ≡ wrong (on s g) (on s) (c.kids g) ∷ []) ⊎ (down_options c s g ≡ singles (c.kids g))
+    → StandIn (order (c.kind g) (on s g)) (on s g) (on s) (c.kids g) (down_options c s g)
+
+-- F-3: "the pairs .. each setting both to the voter's value; so an option may turn one or two children": of children x and y, at gate g
+pub record SetsBoth (c : Circuit) (s : List ℕ) (g x y : ℕ) (o : List ℕ) : Type 0 where
+  pub is_option : In o (down_options c s g)
+  pub first : on (turn o s) x ≡ on s g
+  pub second : on (turn o s) y ≡ on s g
+  pub turned : (1 ≤ length o) × (length o ≤ 2)
+
+abbrev pub PairsAreSet : Type 0
+PairsAreSet =
+    (c : Circuit) → WellFormed c → (s : List ℕ) → Configuration c s → (g : ℕ) → g < c.gates → justified c s g ≡ false → order (c.kind g) (on s g) ≡ in_pairs
+    → (x y : ℕ) → In (x ∷ y ∷ []) (pairs (c.kids g)) → SetsBoth c s g x y (wrong (on s g) (on s) (x ∷ y ∷ []))
 
 -- from s to t the gates o have turned, and no other byte is another
 pub record TurnsExactly (o s t : List ℕ) : Type 0 where

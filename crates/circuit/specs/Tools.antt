@@ -1,6 +1,6 @@
--- The few functions on values and lists that the definitions of document 01 are written with. Assumes nothing.
+-- The few functions on values and lists that the definitions of documents 01 and 02 are written with. Assumes nothing.
 use Rattle.std.specs.Prelude.{ℕ, zero, suc, ◌<◌, ◌%◌, Bool, true, false, cond, not, length, get_or, eqb}
-use mathlib.Core.List.{List, [], ◌∷◌, ◌++◌, Memᴰ as In}
+use mathlib.Core.List.{List, [], ◌∷◌, ◌++◌, map, Memᴰ as In}
 use Rattle.folds.specs.Folds.{◌and◌, ◌or◌}
 
 -- 1 for true and 0 for false
@@ -35,6 +35,11 @@ Distinct (o ∷ os) = (¬ In o os) × Distinct os
 abbrev pub singles : List ℕ → List (List ℕ)
 singles [] = []
 singles (x ∷ xs) = (x ∷ []) ∷ singles xs
+
+-- each two elements as a list: the first with each behind it, then the second with each behind it, and so on
+abbrev pub pairs : List ℕ → List (List ℕ)
+pairs [] = []
+pairs (x ∷ xs) = map (λ y. x ∷ y ∷ []) xs ++ pairs xs
 
 module _ {A : Type 0} where
   -- the elements of which p holds, in order

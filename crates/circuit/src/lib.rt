@@ -13,6 +13,7 @@ pub enum Kind {
     And,
     Or,
     Xor,
+    Voter,
 }
 
 // A kind byte above the last.
@@ -31,6 +32,7 @@ impl TryFrom<u8> for Kind {
             2 => Ok(Kind::And),
             3 => Ok(Kind::Or),
             4 => Ok(Kind::Xor),
+            5 => Ok(Kind::Voter),
             _ => Err(UnknownKind(byte)),
         }
     }

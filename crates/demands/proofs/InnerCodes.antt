@@ -59,7 +59,7 @@ module _ (m : List ℕ) (free : verdict m ≡ 0 → (s : List ℕ) → KeepsCode
       some : (n : ℕ) → ¬ (n ≡ 0) → 1 ≤ n
       some n h = omega (arith, h)
 
-satisfied_never_stuck : SatisfiedNeverStuck
+pub satisfied_never_stuck : SatisfiedNeverStuck
 satisfied_never_stuck m a y = calls_go m (λ v s k. never_stuck (circuit m) (well_formed m (facts m v)) (a, ((mark_does m a).0 y).1) s k)
 
 -- ---- where no coded gate is a child

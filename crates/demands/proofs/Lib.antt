@@ -6,3 +6,4 @@ pub mod Lines
 pub mod Demand1
 pub mod InnerCodes
 pub mod Table
+pub mod Voters

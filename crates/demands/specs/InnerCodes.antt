@@ -65,7 +65,7 @@ pub record Without8 : Type 0 where
 
 -- F-1, sentence by sentence.
 --     accepts          "a coded gate may now be a child": which maps are accepted; none is refused for that
---     options, order   all down options are 001's, in document 01's order;
+--     options, order   all down options are 001's, in the order of documents 01 and 02;
 --     left, greedy     "A down option counts only if it turns no coded gate": those left are the ones of which that is so, in their order, and greedy picks from these the smallest
 --     moves, runs      "numbering and modulo run over those left. If none is left and the drawn gate is uncoded, the gate itself is turned, whatever the kind. If none is left and it is
 --                      coded, the run or move ends Stuck, with that entry undone and uncounted, answer memory untouched and the work memory filled as after Spent. Move then returns

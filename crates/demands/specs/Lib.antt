@@ -1,3 +1,4 @@
 pub mod Demands
 pub mod InnerCodes
 pub mod Table
+pub mod Voters

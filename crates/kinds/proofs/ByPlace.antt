@@ -1,20 +1,21 @@
 -- A gate's options, by the places of its children. A new kind is a new clause of `options_by`. Assumes nothing.
-use Prim.Native.Nat.{ℕ, zero, suc, ◌<◌}
+use Prim.Native.Nat.{ℕ, zero, suc, ◌+◌, ◌-◌, ◌^◌, ◌<◌, min}
 use mathlib.Core.Path.{◌≡◌, refl, sym, ap, ◌∙◌}
 use mathlib.Core.Logic.{inl, inr}
 use mathlib.Core.Bool.{Bool, true, false, not, not-not}
 use mathlib.Core.List.{List, [], ◌∷◌, map}
 use native.Mathlib.Omega.{arith}
 use lib.Dec.{eqb}
-use borrow.Author.Tests.{eqb-true, eqb-false, ne_eqb}
-use Rattle.folds.proofs.Tests.{which}
-use Rattle.circuit.specs.Tools.{up_to, singles, select}
+use borrow.Author.Tests.{eqb-true, eqb-false, eq-eqb, ne_eqb}
+use Rattle.folds.specs.Folds.{◌and◌}
+use Rattle.folds.proofs.Tests.{which, same_test}
+use Rattle.circuit.specs.Tools.{same, up_to, singles, pairs, select}
 use Rattle.circuit.specs.declared.Kind.{Kind}
-use Rattle.circuit.specs.declared.Kind.TheVariants.{Input, Not, And, Or, Xor}
-use Rattle.circuit.specs.Gate.{options}
+use Rattle.circuit.specs.declared.Kind.TheVariants.{Input, Not, And, Or, Xor, Voter}
+use Rattle.circuit.specs.Gate.{fan_in_fits, options}
 use Rattle.circuit.proofs.Values.{same_swap}
 use Rattle.circuit.proofs.Lists.{map_same, in_up_to, select_same, select_append, select_none, select_images}
-use Rattle.kinds.specs.Kinds.{option_count, option_turns}
+use Rattle.kinds.specs.Kinds.{option_count, in_pair, option_turns}
 
 -- the gates of option i, where child j is `child j` with value `at (child j)`
 abbrev pub option_by : Kind → Bool → (ℕ → Bool) → (ℕ → ℕ) → ℕ → ℕ → List ℕ
@@ -42,11 +43,28 @@ joint child p q n h =
     let e : select p (map child (up_to n)) ≡ map child (select (λ j. q (child j)) (up_to n)) = select_images child p (up_to n) ∙ ap (map child) (select_same _ _ (up_to n) (λ j m. h (child j))) in
     rw e
 
-pub options_by : (k : Kind) (v : Bool) (at : ℕ → Bool) (child : ℕ → ℕ) (n : ℕ) → options k v at (map child (up_to n)) ≡ map (option_by k v at child n) (up_to (option_count k v n))
-options_by Input v at child n = refl
-options_by Not v at child n = each child n
-options_by And true at child n = joint child _ (λ x. not (at x)) n (λ x. ap not (same_swap (at x) true))
-options_by And false at child n = each child n
-options_by Or true at child n = each child n
-options_by Or false at child n = joint child _ at n (λ x. ap not (same_swap (at x) false) ∙ not-not (at x))
-options_by Xor v at child n = each child n
+-- of each two of three children those that p tells
+by_pairs : (child : ℕ → ℕ) (p : ℕ → Bool) → map (select p) (pairs (map child (up_to 3))) ≡ map (λ i. map child (select (λ j. in_pair i j and p (child j)) (up_to 3))) (up_to 3)
+unfolding ◌and◌
+by_pairs child p =
+    let a = select_images child p (0 ∷ 1 ∷ []) in
+    let b = select_images child p (0 ∷ 2 ∷ []) in
+    let c = select_images child p (1 ∷ 2 ∷ []) in
+    cc (a, b, c)
+
+pub options_by : (k : Kind) (v : Bool) (at : ℕ → Bool) (child : ℕ → ℕ) (n : ℕ) → fan_in_fits k n ≡ true
+    → options k v at (map child (up_to n)) ≡ map (option_by k v at child n) (up_to (option_count k v n))
+options_by Input v at child n f = rw (eqb-true n 0 f)
+options_by Not v at child n f = each child n
+options_by And true at child n f = joint child _ (λ x. not (at x)) n (λ x. ap not (same_swap (at x) true))
+options_by And false at child n f = each child n
+options_by Or true at child n f = each child n
+options_by Or false at child n f = joint child _ at n (λ x. ap not (same_swap (at x) false) ∙ not-not (at x))
+options_by Xor v at child n f = each child n
+options_by Voter v at child n f = rw (eqb-true n 3 f) (by_pairs child (λ x. not (same (at x) v)))
+
+-- a sum of which more than a word holds is cut off
+pub two_by_sum : (i j r : ℕ) → r ≡ min (i + j) (2 ^ 64 - 1) → not (eqb r 2) ≡ in_pair i j
+two_by_sum i j r e = ap not (same_test (eqb r 2) (eqb (i + j) 2)
+    (λ q. eq-eqb (i + j) 2 (omega (arith, eqb-true r 2 q)))
+    (λ q. eq-eqb r 2 (omega (arith, eqb-true (i + j) 2 q))))

@@ -1,5 +1,5 @@
 -- What a kind makes of how many of its children are at 1: a new kind is a law more. Assumes nothing.
-use Prim.Native.Nat.{ℕ, zero, suc, ◌+◌, ◌%◌, ◌≤◌}
+use Prim.Native.Nat.{ℕ, zero, suc, ◌+◌, ◌%◌}
 use mathlib.Core.Path.{◌≡◌, refl, sym, ap, ◌∙◌}
 use mathlib.Core.Logic.{inl, inr}
 use mathlib.Core.Bool.{Bool, true, false, not, not-not}
@@ -7,22 +7,17 @@ use mathlib.Core.List.{List, [], ◌∷◌, ◌++◌, map, map-append}
 use native.Mathlib.Omega.{arith}
 use native.Mathlib.Nat.{zero-add}
 use lib.ListN.{length}
-use lib.Dec.{eqb, ltb, eqb-suc-suc}
-use borrow.Author.Tests.{eqb-true, eqb-false, eq-eqb, ne_eqb, lt-ltb}
-use Rattle.folds.specs.Folds.{◌and◌, ◌or◌}
+use lib.Dec.{eqb, leb, ltb}
+use borrow.Author.Tests.{eqb-true, eqb-false, eq-eqb, ne_eqb}
 use Rattle.folds.proofs.Tests.{which}
 use Rattle.circuit.specs.Tools.{up_to, select}
-use Rattle.circuit.specs.declared.Kind.TheVariants.{Not, And, Or, Xor}
-use Rattle.circuit.specs.Gate.{all_on, some_on, odd_on}
+use Rattle.circuit.specs.declared.Kind.TheVariants.{Not, And, Or, Xor, Voter}
+use Rattle.circuit.specs.Gate.{odd_on, count_on}
 use Rattle.circuit.proofs.Lists.{place_more}
-use Rattle.kinds.specs.Kinds.{count_on, GivesBy}
+use Rattle.circuit.proofs.Gate.{count_all, count_some}
+use Rattle.kinds.specs.Kinds.{GivesBy}
 
 -- ---- counting
-
-count_most : (vs : List Bool) → count_on vs ≤ length vs
-count_most [] = omega arith
-count_most (true ∷ vs) = omega (arith, count_most vs)
-count_most (false ∷ vs) = omega (arith, count_most vs)
 
 count_append : (vs ws : List Bool) → count_on (vs ++ ws) ≡ count_on vs + count_on ws
 count_append [] ws = sym (zero-add (count_on ws))
@@ -34,18 +29,6 @@ count_is p zero = refl
 count_is p (suc n) = rw (map-append p (up_to n) (n ∷ []), count_append (map p (up_to n)) (p n ∷ []), place_more p n, count_is p n) (omega arith)
 
 -- ---- the kinds
-
-count_all : (vs : List Bool) → eqb (count_on vs) (length vs) ≡ all_on vs
-unfolding ◌and◌
-count_all [] = refl
-count_all (true ∷ vs) = let e : 1 + count_on vs ≡ suc (count_on vs) = omega arith in rw e (eqb-suc-suc (count_on vs) (length vs) ∙ count_all vs)
-count_all (false ∷ vs) = ne_eqb (0 + count_on vs) (suc (length vs)) (λ e. omega (arith, count_most vs))
-
-count_some : (vs : List Bool) → ltb 0 (count_on vs) ≡ some_on vs
-unfolding ◌or◌
-count_some [] = refl
-count_some (true ∷ vs) = lt-ltb 0 (1 + count_on vs) (omega arith)
-count_some (false ∷ vs) = rw (zero-add (count_on vs)) (count_some vs)
 
 count_odd : (vs : List Bool) → eqb (count_on vs % 2) 1 ≡ odd_on vs
 count_odd [] = refl
@@ -75,4 +58,7 @@ module _ (n ones : ℕ) where
   pub xor_gives : GivesBy Xor n ones (eqb (ones % 2) 1)
   xor_gives vs l e = rw (← e) (count_odd vs)
 
-pub ruleset kinds_give = (not_gives, and_gives, or_gives, xor_gives)
+  pub voter_gives : GivesBy Voter n ones (leb 2 ones)
+  voter_gives vs l e = rw e
+
+pub ruleset kinds_give = (not_gives, and_gives, or_gives, xor_gives, voter_gives)

@@ -12,22 +12,15 @@ use Rattle.folds.proofs.Tests.{which}
 use Rattle.circuit.specs.Tools.{up_to, select}
 use denote.Enum.Bare.{sameb}
 use Rattle.circuit.specs.declared.Kind.{Kind}
-use Rattle.circuit.specs.declared.Kind.TheVariants.{Input, Not, And, Or, Xor}
+use Rattle.circuit.specs.declared.Kind.TheVariants.{Input}
 use Rattle.circuit.specs.contracts.Kind.{the_type}
 use Rattle.circuit.specs.Gate.{kind_of, is_input}
 use Rattle.circuit.specs.Evaluate.{row_of}
+use Rattle.kinds.proofs.Bytes.{same_input}
 use Rattle.map.specs.Map.{gate_count, kind_byte}
 use Rattle.line.specs.Text.{digit}
 use Rattle.line.specs.Inner.{input_text, row_below}
 use Rattle.line.specs.Line.{row_text}
-
--- an input by the code's test
-same_input : (k : Kind) → sameb the_type k Input ≡ is_input k
-same_input Input = refl
-same_input Not = refl
-same_input And = refl
-same_input Or = refl
-same_input Xor = refl
 
 module _ (m ans : List ℕ) where
   abbrev taken : List ℕ → List ℕ

@@ -12,16 +12,16 @@ use Rattle.folds.specs.Folds.{◌and◌, ◌or◌, all_below}
 use Rattle.folds.proofs.Tests.{which, and_left, and_right, and_both, or_first, or_second}
 use Rattle.folds.proofs.Loops.{all_at, all_of}
 use Rattle.circuit.specs.Tools.{byte}
-use Rattle.circuit.specs.Gate.{last_kind, kind_of, kind_number, is_input, FanInAllowed}
+use Rattle.circuit.specs.Gate.{kind_of, is_input, FanInAllowed}
 use Rattle.circuit.specs.Evaluate.{inputs, inputs_before}
 use Rattle.circuit.proofs.Lists.{map_at}
 use Rattle.circuit.proofs.Values.{on_byte, bit_byte}
 use Rattle.circuit.proofs.Survey.{lists_set}
 use Rattle.circuit.proofs.Source001.{gate_zero}
 use Rattle.map.specs.Map.{most_gates, gate_count, code_count, kind_byte, fan_in, child_at, code_gate, kids_of, circuit}
-use Rattle.kinds.specs.Kinds.{kind_fits}
 use Rattle.map.specs.Check.{offsets_test, kind_test, position_test, positions_test, child_test, children_test, code_test, first_failed, contents_tests, bodies_tests, map_tests, verdict, check_effect, Laid, Summed, Ordered, CodesAllowed, Described, MapAccepts, Test, passes, fails, MapNumber, CheckNumber, CheckAccepts, CheckDoes, CheckRefuses, AcceptedMaps}
 use Rattle.kinds.proofs.Bytes.{gate_kind}
+use Rattle.kinds.proofs.Fans.{fits_allowed, allowed_fits, kind_is}
 use Rattle.map.proofs.Laws.{past, stop, no_test, contents_tests_lem}
 use Rattle.map.proofs.Facts.{ascends, contents, bodies_tests_lem, facts, kids_length, well_formed}
 use Rattle.map.proofs.Codes.{code_record, code_found}
@@ -43,33 +43,6 @@ neighbours f n (suc i) up l =
     let e : i + 1 ≡ suc i = omega arith in
     let q : suc i - 1 ≡ i = omega arith in
     or_second _ _ (rw q (lt-ltb (f i) (f (suc i)) (rw e at (up i (omega arith)))))
-
--- a kind byte and a fan-in
-fits_allowed : (k n : ℕ) → kind_fits k n ≡ true → FanInAllowed k n
-unfolding kind_fits
-fits_allowed zero n e = eqb-true n 0 (and_right _ _ e)
-fits_allowed (suc zero) n e = eqb-true n 1 (and_right _ _ e)
-fits_allowed (suc (suc zero)) n e = (let f = and_right _ _ e in (leb-true 2 n (and_left _ _ f), leb-true n 8 (and_right _ _ f)))
-fits_allowed (suc (suc (suc zero))) n e = (let f = and_right _ _ e in (leb-true 2 n (and_left _ _ f), leb-true n 8 (and_right _ _ f)))
-fits_allowed (suc (suc (suc (suc zero)))) n e = eqb-true n 2 (and_right _ _ e)
-fits_allowed (suc (suc (suc (suc (suc k))))) n e = (let h : suc (suc (suc (suc (suc k)))) ≤ last_kind = leb-true _ _ (and_left _ _ e) in omega arith)
-
-allowed_fits : (k n : ℕ) → FanInAllowed k n → kind_fits k n ≡ true
-unfolding kind_fits
-allowed_fits zero n a = and_both _ _ (le-leb 0 4 (omega arith)) (eq-eqb n 0 a)
-allowed_fits (suc zero) n a = and_both _ _ (le-leb 1 4 (omega arith)) (eq-eqb n 1 a)
-allowed_fits (suc (suc zero)) n a = and_both _ _ (le-leb 2 4 (omega arith)) (and_both _ _ (le-leb 2 n a.0) (le-leb n 8 a.1))
-allowed_fits (suc (suc (suc zero))) n a = and_both _ _ (le-leb 3 4 (omega arith)) (and_both _ _ (le-leb 2 n a.0) (le-leb n 8 a.1))
-allowed_fits (suc (suc (suc (suc zero)))) n a = and_both _ _ (le-leb 4 4 (omega arith)) (eq-eqb n 2 a)
-allowed_fits (suc (suc (suc (suc (suc k))))) n a = absurd a
-
-kind_is : (k n : ℕ) → FanInAllowed k n → kind_number (kind_of k) ≡ k
-kind_is zero n a = refl
-kind_is (suc zero) n a = refl
-kind_is (suc (suc zero)) n a = refl
-kind_is (suc (suc (suc zero))) n a = refl
-kind_is (suc (suc (suc (suc zero)))) n a = refl
-kind_is (suc (suc (suc (suc (suc k))))) n a = absurd a
 
 -- ---- each of the seven, there and back
 

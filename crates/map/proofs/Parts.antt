@@ -1,7 +1,7 @@
 -- The stretch of a gate's children, from what Children reads. Assumes nothing.
-use Prim.Native.Nat.{ℕ, zero, suc, ◌+◌, ◌*◌, ◌<◌, ◌≤◌}
+use Prim.Native.Nat.{ℕ, ◌+◌, ◌*◌, ◌<◌, ◌≤◌}
 use mathlib.Core.Path.{◌≡◌, refl, ap, ◌∙◌}
-use mathlib.Core.Bool.{true, false, false≢true}
+use mathlib.Core.Bool.{true, false}
 use mathlib.Core.Logic.{inl, inr}
 use mathlib.Core.List.{List, []}
 use native.Mathlib.Omega.{arith}
@@ -11,7 +11,7 @@ use borrow.Author.Tests.{eq-eqb, ne_eqb, eqb-true, le-ltb, lt-ltb, ltb-true}
 use Rattle.folds.proofs.Tests.{which, and_left, and_right, and_both, and_first_false, and_second_false}
 use Rattle.circuit.specs.Gate.{is_input, kind_of}
 use Rattle.map.specs.Map.{u16_at, gate_count, children_place, kind_byte, fan_in, first_child, child_at}
-use Rattle.kinds.specs.Kinds.{kind_fits}
+use Rattle.kinds.proofs.Fans.{input_alone}
 use Rattle.map.specs.Check.{kind_test, verdict}
 use Rattle.map.specs.Children.{has_gate, stretch_place, stretch_length, children_effect, ChildrenDoes}
 use Rattle.map.proofs.Facts.{facts}
@@ -58,14 +58,6 @@ module _ (m : List ℕ) (g : ℕ) where
   gate_of : has_gate m g ≡ true → (verdict m ≡ 0) × (g < gate_count m)
   unfolding has_gate
   gate_of h = (eqb-true _ _ (and_left _ _ h), ltb-true _ _ (and_right _ _ h))
-
-  input_alone : (k n : ℕ) → is_input (kind_of k) ≡ true → kind_fits k n ≡ true → n ≡ 0
-  unfolding kind_fits
-  input_alone zero n i e = eqb-true _ _ (and_right _ _ e)
-  input_alone (suc zero) n i e = absurd (false≢true i)
-  input_alone (suc (suc zero)) n i e = absurd (false≢true i)
-  input_alone (suc (suc (suc zero))) n i e = absurd (false≢true i)
-  input_alone (suc (suc (suc (suc k)))) n i e = absurd (false≢true i)
 
   stretch_input : is_input (kind_of (kind_byte m g)) ≡ true → stretch_length m g ≡ 0
   unfolding stretch_length kind_test

@@ -42,7 +42,7 @@ impl<'a> Map<'a> {
     }
 
     // Gate g, its record read once: where a loop writes, the compiler would read it again each time, as it does not know that slices don't overlap.
-    // (Its kind by `unwrap`: past that jump the compiler knows that the kind is one of five. By `unwrap_or`, without the jump, runs and Evaluate executed 2 to 6 % more.)
+    // (Its kind by `unwrap`: past that jump the compiler knows that the byte is a kind's. By `unwrap_or`, without the jump, runs and Evaluate executed 2 to 6 % more.)
     #[tactic(auto, using(crate::proofs::Facts::known_kind))]
     pub fn gate(self, g: usize) -> Gate<'a>
         requires { g < self.gates }
@@ -102,7 +102,7 @@ pub struct Gate<'a> {
 }
 
 impl Gate<'_> {
-    // Its fan-in. (Not a field: `Values::given` and the cone's `mark_children` don't ask it of a kind that allows one alone, and a field would be read all the same.)
+    // Its fan-in. (Not a field: `Values::given` and the cone's `mark_gate` don't ask it of a kind that allows one alone, and a field would be read all the same.)
     pub fn fan(self) -> usize
         ensures { result ≡ fan_in self.entry.map.bytes.now self.entry.number }
     {

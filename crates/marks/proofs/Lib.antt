@@ -3,3 +3,4 @@ pub mod Pass
 pub mod ConePass
 pub mod InterestPass
 pub mod Marked
+pub mod Reasons

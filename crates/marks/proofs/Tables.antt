@@ -51,9 +51,6 @@ pub paint_select : (f child : ℕ → ℕ) (p : ℕ → Bool) (j : ℕ) (w : Lis
 paint_select f child p j w = rw (add-one j, map-append child (up_to j) (j ∷ []), select_append p (map child (up_to j)) (child j ∷ []))
     (paint_append f (select p (map child (up_to j))) (select p (child j ∷ [])) w)
 
-pub paint_two : (f : ℕ → ℕ) (p : ℕ → Bool) (x y : ℕ) (w : List ℕ) → paint f (select p (x ∷ y ∷ [])) w ≡ paint f (select p (y ∷ [])) (paint f (select p (x ∷ [])) w)
-paint_two f p x y w = rw (select_append p (x ∷ []) (y ∷ [])) (paint_append f (select p (x ∷ [])) (select p (y ∷ [])) w)
-
 set_table : (f : ℕ → ℕ) (n g v : ℕ) → set (map f (up_to n)) g v ≡ map (λ x. cond (eqb x g) v (f x)) (up_to n)
 set_table f n g v = table_of (set (map f (up_to n)) g v) (λ x. cond (eqb x g) v (f x)) n (simp length-set (length_table f n)) (λ x l. elim (which (eqb x g)) [
   | inl q ↦ rw (q, eqb-true x g q) (get_or-set_same (map f (up_to n)) g v 0 (rw (length_table f n, ← eqb-true x g q) l))

@@ -1,14 +1,13 @@
 // The cone and the front, by one pass from the last gate to gate 0.
-ghost use Rattle.std.specs.Prelude.{◌≡◌, true, cond, [], ◌∷◌, ◌<◌, ◌≤◌, length};
-ghost use Rattle.circuit.specs.Tools.{byte, select};
-ghost use Rattle.circuit.specs.Gate.{relevant};
+ghost use Rattle.std.specs.Prelude.{◌≡◌, true, cond, [], ◌∷◌, ◌<◌, ◌≤◌, length, get_or};
+ghost use Rattle.circuit.specs.Tools.{byte, same, select};
+ghost use Rattle.folds.specs.Folds.{◌or◌};
 ghost use Rattle.circuit.specs.Circuit.{on, justified};
 ghost use Rattle.circuit.specs.Survey.{reasons};
-ghost use Rattle.map.specs.Map.{code_count, circuit};
+ghost use Rattle.map.specs.Map.{code_count, fan_in, circuit};
 ghost use Rattle.map.specs.Inner.{CodeMarks};
 ghost use Rattle.marks.specs.Marks.{cone_marks, MarksOf, ConeTurned, paint, to_one};
 
-use circuit::Kind;
 use state::Values;
 
 // Marks that are the cone and the front of a configuration.
@@ -26,40 +25,54 @@ fn child_mark(relevant: bool, b: u8) -> u8
     if relevant { 1 } else { b }
 }
 
-// Child x of a justified gate of this kind and value comes into the cone if it is relevant. The mark is written in any case: a jump here would often be foretold wrongly. (Kind and value are two parameters, as in `kinds`.)
-#[tactic(auto, using(crate::proofs::Tables::paint_one))]
-fn mark_child(kind: Kind, v: bool, x: usize, s: Values, marks: &mut [u8])
+// Child x of a justified gate with value v comes into the cone where all of this gate's children do, or where x has this value. The mark is written in any case: a jump here would often be predicted wrongly.
+#[tactic(auto, using(folds::proofs::Tests::bools, crate::proofs::Tables::paint_one, circuit::proofs::Values::beq_same))]
+fn mark_child(all: bool, v: bool, x: usize, s: Values, marks: &mut [u8])
     requires { (x < s.map.gates) × (x < length marks.old) }
     ensures { marks.new
-        ≡ paint to_one (select (λ y. relevant kind v (on s.entry.bytes.now y)) (x ∷ [])) marks.old }
+        ≡ paint to_one (select (λ y. all or same (on s.entry.bytes.now y) v) (x ∷ [])) marks.old }
 {
-    marks[x] = child_mark(kinds::relevant(kind, v, s.is_on(x)), marks[x]);
+    let relevant = all || s.is_on(x) == v;
+    marks[x] = child_mark(relevant, marks[x]);
 }
 
-// The relevant children of a justified gate come into the cone. Those of a kind with one fan-in alone are marked without a loop.
-#[tactic(auto, using(crate::proofs::Tables::paint_select), unfolding(crate::specs::Marks::paint, circuit::specs::Survey::reasons, map::specs::Map::kids_of))]
-fn mark_children(s: Values, g: usize, marks: &mut [u8])
+// The relevant ones of the `fan` children of a justified gate with value v come into the cone.
+#[inline(always)]
+#[tactic(auto, using(crate::proofs::Tables::paint_select), unfolding(crate::specs::Marks::paint, map::specs::Map::kids_of))]
+fn mark_kids(s: Values, g: usize, fan: usize, v: bool, marks: &mut [u8])
     requires gate { (g < s.map.gates) × (s.map.gates ≤ length marks.old) }
-    requires g_value { justified (circuit s.map.bytes.now) s.bytes.now g ≡ true }
+    requires g_value { (justified (circuit s.map.bytes.now) s.bytes.now g ≡ true) × (v ≡ on s.bytes.now g) }
+    requires long { fan ≡ fan_in s.map.bytes.now g }
     ensures { marks.new ≡ paint to_one (reasons (circuit s.entry.map.bytes.now) s.entry.bytes.now g) marks.old }
 {
     let gate = s.map.gate(g);
-    let v = s.is_on(g);
-    match kinds::only_fan_in(gate.kind) {
-        Some(1) => mark_child(gate.kind, v, gate.kid(0), s, marks),
-        Some(2) => {
-            mark_child(gate.kind, v, gate.kid(0), s, marks);
-            mark_child(gate.kind, v, gate.kid(1), s, marks);
-        }
-        _ => {
-            for j in 0..gate.fan() {
-                mark_child(gate.kind, v, gate.kid(j), s, marks);
-            }
-        }
+    let all = kinds::all_relevant(gate.kind, v);
+    for j in 0..fan {
+        mark_child(all, v, gate.kid(j), s, marks);
     }
 }
 
-// Gate g's turn. In the cone it is in the front, or it brings its relevant children. Is it in the front?
+// What gate g of the cone, with `fan` children, does: it is in the front, or it brings its relevant children. Is it in the front? (The value is written out, so that the compiler makes a loop for each, without a test of it: without, moves on wide maps executed a tenth more.)
+#[inline(always)]
+fn mark_by(s: Values, g: usize, fan: usize, marks: &mut [u8]) -> bool
+    requires gate { (g < s.map.gates) × (s.map.gates ≤ length marks.old) }
+    requires in_cone { ¬ (get_or marks.old g 0 ≡ 0) }
+    requires long { fan ≡ fan_in s.map.bytes.now g }
+    ensures { ConeTurned (circuit s.entry.map.bytes.now) s.entry.bytes.now g marks.old marks.new (byte result) }
+{
+    if !s.justified_by(g, fan) {
+        marks[g] = 3;
+        return true;
+    }
+    if s.is_on(g) {
+        mark_kids(s, g, fan, true, marks);
+    } else {
+        mark_kids(s, g, fan, false, marks);
+    }
+    false
+}
+
+// Gate g's turn. Is it in the front? (A fan-in that is its kind's only one is written out, and so is two, as in `given` of `state`.)
 fn mark_gate(s: Values, g: usize, marks: &mut [u8]) -> bool
     requires { (g < s.map.gates) × (s.map.gates ≤ length marks.old) }
     ensures { ConeTurned (circuit s.entry.map.bytes.now) s.entry.bytes.now g marks.old marks.new (byte result) }
@@ -67,12 +80,16 @@ fn mark_gate(s: Values, g: usize, marks: &mut [u8]) -> bool
     if marks[g] == 0 {
         return false;
     }
-    if s.justified(g) {
-        mark_children(s, g, marks);
-        return false;
+    let gate = s.map.gate(g);
+    match kinds::only_fan_in(gate.kind) {
+        Some(1) => mark_by(s, g, 1, marks),
+        Some(2) => mark_by(s, g, 2, marks),
+        Some(3) => mark_by(s, g, 3, marks),
+        _ => match gate.fan() {
+            2 => mark_by(s, g, 2, marks),
+            fan => mark_by(s, g, fan, marks),
+        },
     }
-    marks[g] = 3;
-    true
 }
 
 // Marks, with the coded gates at 1, become the cone and the front of s. Returns the front's size. (Not by `sum`: a closure that writes the marks as it counts would be no plainer.)

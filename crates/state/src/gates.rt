@@ -24,37 +24,59 @@ impl Values<'_> {
         self.bytes[g] == 1
     }
 
-    // How many children of gate g are at 1.
-    fn ones(self, g: usize) -> usize
-        requires { g < self.map.gates }
+    // How many of the `fan` children of gate g are at 1.
+    #[inline(always)]
+    fn ones(self, g: usize, fan: usize) -> usize
+        requires range { g < self.map.gates }
+        requires long { fan ≡ fan_in self.map.bytes.now g }
         ensures { (result ≡ length (select (λ j. on self.entry.bytes.now (child_at self.entry.map.bytes.now g j)) (up_to (fan_in self.entry.map.bytes.now g))))
             × (result ≤ fan_in self.entry.map.bytes.now g) }
     {
         let gate = self.map.gate(g);
-        (0..gate.fan())
-            .map(|j| usize::from(self.is_on(gate.kid(j))))
-            .sum()
+        (0..fan).map(|j| usize::from(self.is_on(gate.kid(j)))).sum()
     }
 
-    // Do its children give gate g the value 1? Those of a kind with one fan-in alone are read without a loop, whose end would often be foretold wrongly.
+    // Do its `fan` children give gate g the value 1?
+    #[inline(always)]
+    fn given_by(self, g: usize, fan: usize) -> bool
+        requires range { g < self.map.gates }
+        requires long { fan ≡ fan_in self.map.bytes.now g }
+        ensures { result ≡ given (circuit self.entry.map.bytes.now) self.entry.bytes.now g }
+    {
+        kinds::gives(self.map.gate(g).kind, fan, self.ones(g, fan))
+    }
+
+    // Do its children give gate g the value 1? (Where the kind has one fan-in alone it is written out, and so are two children, the most frequent number: the compiler then reads them without a loop, whose end would often be predicted wrongly.)
+    #[inline(always)]
     pub fn given(self, g: usize) -> bool
         requires { g < self.map.gates }
         ensures { result ≡ given (circuit self.entry.map.bytes.now) self.entry.bytes.now g }
     {
         let gate = self.map.gate(g);
         match kinds::only_fan_in(gate.kind) {
-            Some(1) => kinds::gives(gate.kind, 1, usize::from(self.is_on(gate.kid(0)))),
-            Some(2) => {
-                let ones = usize::from(self.is_on(gate.kid(0)))
-                    + usize::from(self.is_on(gate.kid(1)));
-                kinds::gives(gate.kind, 2, ones)
-            }
-            _ => kinds::gives(gate.kind, gate.fan(), self.ones(g)),
+            Some(1) => self.given_by(g, 1),
+            Some(2) => self.given_by(g, 2),
+            Some(3) => self.given_by(g, 3),
+            _ => match gate.fan() {
+                2 => self.given_by(g, 2),
+                fan => self.given_by(g, fan),
+            },
         }
     }
 
+    // Is gate g an input, or do its `fan` children give its value?
+    #[tactic(auto, using(folds::proofs::Tests::bools, circuit::proofs::Values::beq_same), unfolding(circuit::specs::Circuit::justified))]
+    #[inline(always)]
+    pub fn justified_by(self, g: usize, fan: usize) -> bool
+        requires range { g < self.map.gates }
+        requires long { fan ≡ fan_in self.map.bytes.now g }
+        ensures { result ≡ justified (circuit self.entry.map.bytes.now) self.entry.bytes.now g }
+    {
+        self.map.kind(g) == Kind::Input || self.given_by(g, fan) == self.is_on(g)
+    }
+
     // Is gate g an input, or do its children give its value?
-    #[tactic(auto, using(folds::proofs::Tests::bools, crate::proofs::Given::beq_same), unfolding(circuit::specs::Circuit::justified))]
+    #[tactic(auto, using(folds::proofs::Tests::bools, circuit::proofs::Values::beq_same), unfolding(circuit::specs::Circuit::justified))]
     pub fn justified(self, g: usize) -> bool
         requires { g < self.map.gates }
         ensures { result ≡ justified (circuit self.entry.map.bytes.now) self.entry.bytes.now g }

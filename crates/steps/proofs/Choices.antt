@@ -23,8 +23,9 @@ use Rattle.map.specs.Map.{circuit}
 use Rattle.picks.specs.Picks.{bests, best_at}
 use Rattle.picks.proofs.Places.{range_is}
 use Rattle.picks.proofs.Best.{some_best, best_below}
+use Rattle.steps.specs.declared.drawn.Drawn.{Drawn}
 use Rattle.steps.specs.Options.{option_gates, left_of, weights_of, interest_after}
-use Rattle.steps.proofs.Listed.{left_options}
+use Rattle.steps.proofs.Listed.{left_drawn}
 
 -- ---- lists of images
 
@@ -43,7 +44,16 @@ pick_image f d xs i h = rw (length-map xs f) (get_or-map f xs (i % length xs) 0 
 by_places : (xs : List ℕ) → xs ≡ map (λ k. get_or xs k 0) (up_to (length xs))
 by_places xs = rw range_is at (fill_by_all (λ k. get_or xs k 0) xs (length xs) 0 refl (λ k h. refl))
 
-module _ (m s : List ℕ) (g : ℕ) (left : List ℕ) (a : left ≡ left_of m s g) where
+module _ (d : Drawn) (left : List ℕ) (a : left ≡ left_of d.s.map.bytes.now d.s.bytes.now d.gate.number) where
+  abbrev m : List ℕ
+  m = d.s.map.bytes.now
+
+  abbrev s : List ℕ
+  s = d.s.bytes.now
+
+  abbrev g : ℕ
+  g = d.gate.number
+
   abbrev gates_at : ℕ → List ℕ
   gates_at k = option_gates m s g (get_or left k 0)
 
@@ -51,7 +61,7 @@ module _ (m s : List ℕ) (g : ℕ) (left : List ℕ) (a : left ≡ left_of m s 
   n = length left
 
   listed : options_left (circuit m) s g ≡ map gates_at (up_to n)
-  listed = left_options m s g ∙ ap (map (option_gates m s g)) (sym a ∙ by_places left) ∙ map-map (option_gates m s g) (λ k. get_or left k 0) (up_to n)
+  listed = left_drawn d ∙ ap (map (option_gates m s g)) (sym a ∙ by_places left) ∙ map-map (option_gates m s g) (λ k. get_or left k 0) (up_to n)
 
   left_many : length (options_left (circuit m) s g) ≡ n
   left_many = ap length listed ∙ length-map (up_to n) gates_at ∙ length_up_to n

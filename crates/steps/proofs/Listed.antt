@@ -8,17 +8,19 @@ use mathlib.Core.List.{List, [], ◌∷◌, ◌++◌, map, append-nil}
 use native.Mathlib.Omega.{arith}
 use native.Mathlib.Numerals.{add-one}
 use lib.ListN.{length, length-map}
-use Rattle.folds.proofs.Tests.{which, same_test, and_both, and_first_false, and_second_false}
+use Rattle.folds.proofs.Tests.{which, same_test, and_right, and_both, and_first_false, and_second_false}
 use Rattle.folds.proofs.Loops.{all_at, all_of}
 use Rattle.circuit.specs.Tools.{up_to, select}
-use Rattle.circuit.specs.Gate.{kind_of}
+use Rattle.circuit.specs.Gate.{kind_of, fan_in_fits}
 use Rattle.circuit.specs.Circuit.{coded, on, justified}
 use Rattle.circuit.specs.Run.{down_options, turns_no_coded, options_left}
 use Rattle.circuit.proofs.Lists.{length_up_to, in_up_to, up_to_in, in_select, select_in, select_same, select_append, select_images}
 use Rattle.circuit.proofs.Turns.{turns_no_coded_lem, option_few}
 use Rattle.map.specs.Map.{gate_count, kind_byte, fan_in, child_at, kids_of, circuit}
+use Rattle.map.specs.Check.{kind_test}
 use Rattle.map.specs.Inner.{IsMap}
 use Rattle.map.proofs.Facts.{well_formed}
+use Rattle.kinds.specs.Kinds.{kind_fits}
 use Rattle.kinds.proofs.ByPlace.{options_by}
 use Rattle.steps.specs.declared.drawn.Drawn.{Drawn}
 use Rattle.steps.specs.Options.{option_count_of, option_has, option_up_to, option_gates, child_allowed, option_left, left_up_to, left_of}
@@ -26,16 +28,23 @@ use Rattle.steps.specs.Options.{option_count_of, option_has, option_up_to, optio
 module _ (m s : List ℕ) (g : ℕ) where
   -- ---- all options
 
-  pub down_options_lem : down_options (circuit m) s g ≡ map (option_gates m s g) (up_to (option_count_of m s g))
-  unfolding down_options kids_of option_count_of option_up_to option_has
-  down_options_lem = options_by (kind_of (kind_byte m g)) (on s g) (on s) (λ j. child_at m g j) (fan_in m g)
+  abbrev Fits : Type 0
+  Fits = fan_in_fits (kind_of (kind_byte m g)) (fan_in m g) ≡ true
 
-  count_is : length (down_options (circuit m) s g) ≡ option_count_of m s g
-  count_is = ap length down_options_lem ∙ length-map (up_to (option_count_of m s g)) (option_gates m s g) ∙ length_up_to (option_count_of m s g)
+  fan_fits : IsMap m → g < gate_count m → Fits
+  unfolding kind_test kind_fits
+  fan_fits k h = and_right _ _ (k.kinds g h)
+
+  down_options_lem : Fits → down_options (circuit m) s g ≡ map (option_gates m s g) (up_to (option_count_of m s g))
+  unfolding down_options kids_of option_count_of option_up_to option_has
+  down_options_lem f = options_by (kind_of (kind_byte m g)) (on s g) (on s) (λ j. child_at m g j) (fan_in m g) f
+
+  count_is : Fits → length (down_options (circuit m) s g) ≡ option_count_of m s g
+  count_is f = ap length (down_options_lem f) ∙ length-map (up_to (option_count_of m s g)) (option_gates m s g) ∙ length_up_to (option_count_of m s g)
 
   -- an unjustified gate has at most eight
   few_options : IsMap m → g < gate_count m → justified (circuit m) s g ≡ false → option_count_of m s g ≤ 8
-  few_options k h u = rw (← count_is) (option_few (circuit m) (well_formed m k) s g h u).1
+  few_options k h u = rw (← count_is (fan_fits k h)) (option_few (circuit m) (well_formed m k) s g h u).1
 
   -- ---- an option that is left, child by child
 
@@ -65,10 +74,10 @@ module _ (m s : List ℕ) (g : ℕ) where
       let (b, h) = select_in (option_has m s g i) j (up_to (fan_in m g)) a in
       ap (coded (circuit m)) (sym e) ∙ allowed_free i j (all_at (child_allowed m s g i) (fan_in m g) j t (in_up_to j (fan_in m g) b)) h))
 
-  pub left_options : options_left (circuit m) s g ≡ map (option_gates m s g) (left_of m s g)
+  left_options : Fits → options_left (circuit m) s g ≡ map (option_gates m s g) (left_of m s g)
   unfolding options_left left_up_to
-  left_options =
-      ap (select (turns_no_coded (circuit m))) down_options_lem
+  left_options f =
+      ap (select (turns_no_coded (circuit m))) (down_options_lem f)
       ∙ select_images (option_gates m s g) (turns_no_coded (circuit m)) (up_to (option_count_of m s g))
       ∙ ap (map (option_gates m s g)) (select_same (λ i. turns_no_coded (circuit m) (option_gates m s g i)) (option_left m s g) (up_to (option_count_of m s g)) (λ i n. left_test i))
 
@@ -86,6 +95,10 @@ module _ (m s : List ℕ) (g : ℕ) where
   unfolding left_up_to
   list_not_left i q = rw (add-one i) (select_append (option_left m s g) (up_to i) (i ∷ []) ∙ rw (q, append-nil (select (option_left m s g) (up_to i))))
 
--- a drawn gate is unjustified, so it has at most eight
+-- of a drawn gate, which is unjustified: so it has at most eight
 pub few_drawn : (d : Drawn) → option_count_of d.s.map.bytes.now d.s.bytes.now d.gate.number ≤ 8
 few_drawn d = few_options _ _ _ d.s.map.is (omega (arith, d.drawable, d.s.map.contents)) d.drawable.unjustified
+
+pub left_drawn : (d : Drawn) → options_left (circuit d.s.map.bytes.now) d.s.bytes.now d.gate.number
+    ≡ map (option_gates d.s.map.bytes.now d.s.bytes.now d.gate.number) (left_of d.s.map.bytes.now d.s.bytes.now d.gate.number)
+left_drawn d = left_options _ _ _ (fan_fits _ d.s.bytes.now _ d.s.map.is (omega (arith, d.drawable, d.s.map.contents)))
