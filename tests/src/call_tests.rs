@@ -295,6 +295,8 @@ struct Met {
     fewer: u32,
     tied: u32,
     both: u32,
+    /// Moves that drew a voter at 0 and at 1, and turned nothing, one of its children, two of them, or the voter itself.
+    voters: [[u32; 4]; 2],
 }
 
 impl Met {
@@ -304,12 +306,15 @@ impl Met {
             Err(_) => return,
         };
         self.kinds[kind as usize] += 1;
+        let itself = after[gate as usize] != case.body[gate as usize];
+        if case.map[12 + 4 * gate as usize] == VOTER {
+            self.voters[case.body[gate as usize] as usize][if itself { 3 } else { turned as usize }] += 1;
+        }
         if turned == 0 {
             self.stuck += 1;
             return;
         }
         self.several += (turned > 1) as u32;
-        let itself = after[gate as usize] != case.body[gate as usize];
         if kind == UP {
             self.upward += itself as u32;
             self.coded += !itself as u32;
@@ -346,6 +351,7 @@ fn random_moves_are_not_bare() {
     assert!(met.several >= 30 && met.upward >= 30 && met.coded >= 30);
     assert!(met.stuck >= 30 && met.for_want >= 30);
     assert!(met.fewer >= 30 && met.tied >= 30 && met.both >= 15);
+    assert!(met.voters.iter().flatten().all(|count| *count >= 5), "{:?}", met.voters);
 }
 
 #[test]

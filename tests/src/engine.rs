@@ -1,18 +1,20 @@
 //! The independent engine: check, children, evaluate, mark, survey, move, run
-//! and the program, written straight from document 01 and from request F-1 of
-//! document 02, which is named where it is quoted. (The place of an empty
-//! stretch of children, which they leave open, is the C header's.)
+//! and the program, written straight from document 01 and from requests F-1 and
+//! F-3 of document 02, which are named where they are quoted. (The place of an
+//! empty stretch of children, which they leave open, is the C header's.)
 //!
 //! It is slow and plain on purpose. Every offset, count and length is a whole
 //! number (u64) that cannot wrap, and every numbered test is a function of its
 //! own that runs over all it concerns before the next one is asked.
 
-/// "Kinds: 0 input, 1 NOT, 2 AND, 3 OR, 4 XOR."
+/// "Kinds: 0 input, 1 NOT, 2 AND, 3 OR, 4 XOR." F-3, of two-out-of-three voters:
+/// "Kind 5 has three children".
 pub const INPUT: u8 = 0;
 pub const NOT: u8 = 1;
 pub const AND: u8 = 2;
 pub const OR: u8 = 3;
 pub const XOR: u8 = 4;
+pub const VOTER: u8 = 5;
 
 /// "kind (0 greedy, 1 down, 2 up)"
 pub const GREEDY: u8 = 0;
@@ -140,21 +142,24 @@ fn fails_3(map: &[u8]) -> bool {
         || map.len() as u64 != length
 }
 
-/// "Fan-in: 0 for an input, 1 for NOT, 2 for XOR, 2 to 8 for AND and OR."
+/// "Fan-in: 0 for an input, 1 for NOT, 2 for XOR, 2 to 8 for AND and OR." F-3:
+/// "kind 5, with fan-in 3 only."
 fn fan_in_allowed(kind: u8, fan_in: u64) -> bool {
     match kind {
         INPUT => fan_in == 0,
         NOT => fan_in == 1,
         XOR => fan_in == 2,
         AND | OR => 2 <= fan_in && fan_in <= 8,
+        VOTER => fan_in == 3,
         _ => false,
     }
 }
 
-/// "4. A kind is above 4 or a fan-in isn't allowed for its kind."
+/// "4. A kind is above 4 or a fan-in isn't allowed for its kind." F-3: "Number 4
+/// now allows kind 5", so that kinds above 5 are left to fail.
 fn fails_4(map: &[u8]) -> bool {
     for gate in gate_records(map) {
-        if gate.kind > 4 {
+        if gate.kind > 5 {
             return true;
         }
         if !fan_in_allowed(gate.kind, gate.fan_in) {
@@ -318,8 +323,8 @@ fn circuit_of(map: &[u8]) -> Circuit {
 
 /// "NOT, AND, OR and XOR mean what 001 says." Read here in their usual sense:
 /// NOT is 1 iff its child is 0, AND iff all children are 1, OR iff some child
-/// is 1, XOR iff its two children differ. The value that the children give a
-/// gate that isn't an input.
+/// is 1, XOR iff its two children differ. F-3: kind 5 "is 1 when at least two are
+/// 1." The value that the children give a gate that isn't an input.
 fn given(gate: &Gate, values: &[u8]) -> u8 {
     let mut children = gate.children.iter().map(|child| values[*child]);
     let yes = match gate.kind {
@@ -327,6 +332,7 @@ fn given(gate: &Gate, values: &[u8]) -> u8 {
         AND => children.all(|value| value == 1),
         OR => children.any(|value| value == 1),
         XOR => children.next() != children.next(),
+        VOTER => children.filter(|value| *value == 1).count() >= 2,
         _ => panic!("an input's children give nothing"),
     };
     yes as u8
@@ -448,7 +454,8 @@ fn children_at(value: u8, gate: &Gate, configuration: &[u8]) -> Vec<usize> {
 
 /// "The parts of a subset-minimal justification that agree with the
 /// configuration are: AND at 1 and OR at 0, all children; AND at 0, each child
-/// at 0; OR at 1, each child at 1; NOT, its child; XOR, both." An input has
+/// at 0; OR at 1, each child at 1; NOT, its child; XOR, both." F-3: "The children
+/// relevant to a justified voter are all those with its value." An input has
 /// none. Only asked for justified gates.
 fn parts(circuit: &Circuit, configuration: &[u8], number: usize) -> Vec<usize> {
     let gate = &circuit.gates[number];
@@ -457,6 +464,7 @@ fn parts(circuit: &Circuit, configuration: &[u8], number: usize) -> Vec<usize> {
         (AND, 0) => children_at(0, gate, configuration),
         (OR, 1) => children_at(1, gate, configuration),
         (NOT, _) | (XOR, _) => gate.children.clone(),
+        (VOTER, value) => children_at(value, gate, configuration),
         _ => Vec::new(),
     }
 }
@@ -564,11 +572,24 @@ fn one_by_one(children: &[usize]) -> Vec<Vec<usize>> {
     children.iter().map(|child| vec![*child]).collect()
 }
 
+/// F-3, of a voter: "Its options are the pairs first-second, first-third,
+/// second-third, each setting both to the voter's value; so an option may turn
+/// one or two children". Of each pair those that aren't at that value: setting
+/// turns them, and none else.
+fn pairs(gate: &Gate, configuration: &[u8], value: u8) -> Vec<Vec<usize>> {
+    let (first, second, third) = (gate.children[0], gate.children[1], gate.children[2]);
+    let mut list = Vec::new();
+    for pair in [[first, second], [first, third], [second, third]] {
+        list.push(pair.into_iter().filter(|child| configuration[*child] != value).collect());
+    }
+    list
+}
+
 /// "Its down options, numbered from 0: AND at 1 or OR at 0, a single option
 /// that turns every wrong child; AND at 0 or OR at 1, one per child in order,
-/// turning that child; NOT, its child; XOR, first child or second child." Each
-/// is the list of the gates it turns: "A gate belongs to an option only if the
-/// option turns it." Only asked for gates of the front.
+/// turning that child; NOT, its child; XOR, first child or second child." A
+/// voter's are F-3's pairs. Each is the list of the gates it turns: "A gate belongs
+/// to an option only if the option turns it." Only asked for gates of the front.
 fn down_options(circuit: &Circuit, configuration: &[u8], drawn: usize) -> Vec<Vec<usize>> {
     let gate = &circuit.gates[drawn];
     match (gate.kind, configuration[drawn]) {
@@ -576,6 +597,7 @@ fn down_options(circuit: &Circuit, configuration: &[u8], drawn: usize) -> Vec<Ve
         (OR, 0) => vec![children_at(1, gate, configuration)],
         (AND, 0) | (OR, 1) => one_by_one(&gate.children),
         (NOT, _) | (XOR, _) => one_by_one(&gate.children),
+        (VOTER, value) => pairs(gate, configuration, value),
         _ => panic!("an input is never in the front"),
     }
 }

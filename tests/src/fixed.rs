@@ -15,12 +15,15 @@ mod runs;
 mod runs_refused;
 mod stuck;
 mod survey;
+mod voters;
+mod voters_coded;
+mod voters_run;
 
 pub use self::circuits::adder;
 pub use self::program::{longest, longest_stuck, longest_with};
 
 use self::circuits::*;
-use crate::engine::{AND, DOWN, GREEDY, INPUT, NOT, OR, UP, XOR};
+use crate::engine::{AND, DOWN, GREEDY, INPUT, NOT, OR, UP, VOTER, XOR};
 use crate::frame::{Case, PATTERN};
 use crate::maps::{build, raw, with, with16};
 
@@ -324,6 +327,9 @@ pub fn fixed() -> Vec<Named> {
         program::refused,
         program::precedence,
         readings::readings,
+        voters::voters,
+        voters_coded::voters_coded,
+        voters_run::voters_run,
     ];
     for add in lists {
         add(&mut list);

@@ -1,4 +1,4 @@
-//! The independent engine, written from documents 00 and 01 and request F-1 of document 02, and what makes cases for it and for the proved one.
+//! The independent engine, written from documents 00 and 01 and requests F-1 and F-3 of document 02, and what makes cases for it and for the proved one.
 
 pub mod dice;
 pub mod engine;

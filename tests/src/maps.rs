@@ -1,7 +1,7 @@
 //! Maps made for tests: from parts, from a seed, and damaged ones.
 
 use crate::dice::Dice;
-use crate::engine::{self, AND, INPUT, NOT, OR, XOR};
+use crate::engine::{self, AND, INPUT, NOT, OR, VOTER, XOR};
 
 pub fn push16(bytes: &mut Vec<u8>, number: usize) {
     assert!(number <= 65_535, "{number} doesn't fit a u16");
@@ -93,6 +93,7 @@ pub fn gates_at(number: u16) -> Gates {
         let kinds: &[u8] = match children.len() {
             1 => &[NOT],
             2 => &[AND, OR, XOR],
+            3 => &[AND, OR, VOTER],
             _ => &[AND, OR],
         };
         list.extend(kinds.iter().map(|kind| (*kind, children.clone())));
@@ -139,6 +140,25 @@ pub fn maps_of(n: u16) -> Vec<Vec<u8>> {
     maps
 }
 
+/// Every map of three gates, a voter over them and a coded NOT of it. In a map of four gates a voter has no parent, so that it is in the cone only where it
+/// is coded; here it needn't be.
+pub fn voters_below_a_not() -> Vec<Vec<u8>> {
+    let mut maps = Vec::new();
+    for three in gate_lists(3) {
+        let gates = [&three[..], &[(VOTER, vec![0, 1, 2]), (NOT, vec![3])]].concat();
+        for codes in code_lists(4) {
+            maps.extend([0, 1].map(|value| build(&gates, &[&codes[..], &[(4, value)]].concat())));
+        }
+    }
+    assert!(maps.iter().all(|map| engine::check(map).is_ok()));
+    maps
+}
+
+/// All maps of up to four gates, and of five those that have a voter below a coded NOT, with their gate counts.
+pub fn small_maps() -> Vec<(u16, Vec<Vec<u8>>)> {
+    (1..=4).map(|n| (n, maps_of(n))).chain([(5, voters_below_a_not())]).collect()
+}
+
 fn number_at(map: &[u8], at: usize) -> usize {
     map[at] as usize + 256 * map[at + 1] as usize
 }
@@ -146,6 +166,11 @@ fn number_at(map: &[u8], at: usize) -> usize {
 /// The coded gates of an accepted map.
 pub fn coded_gates(map: &[u8]) -> Vec<usize> {
     (0..number_at(map, 10)).map(|code| number_at(map, number_at(map, 8) + 4 * code)).collect()
+}
+
+/// Whether some gate of an accepted map is a voter.
+pub fn has_voter(map: &[u8]) -> bool {
+    (0..number_at(map, 2)).any(|gate| map[12 + 4 * gate] == VOTER)
 }
 
 /// Whether some coded gate of an accepted map is some gate's child.
@@ -191,10 +216,15 @@ pub fn random_gate(dice: &mut Dice, number: usize, input_share: usize) -> (u8, V
     if number == 0 || dice.below(100) < input_share {
         return (INPUT, vec![]);
     }
-    let kind = if number == 1 { NOT } else { [NOT, AND, AND, OR, OR, XOR][dice.below(6)] };
+    let kind = match number {
+        1 => NOT,
+        2 => [NOT, AND, AND, OR, OR, XOR][dice.below(6)],
+        _ => [NOT, AND, AND, OR, OR, XOR, VOTER, VOTER][dice.below(8)],
+    };
     let fan_in = match kind {
         NOT => 1,
         XOR => 2,
+        VOTER => 3,
         _ => {
             let most = number.min(8);
             match dice.below(4) {
@@ -330,7 +360,7 @@ fn insert_code(dice: &mut Dice, draft: &mut Draft) {
 fn change_gate(dice: &mut Dice, draft: &mut Draft) {
     let gate = dice.below(draft.gates.len());
     let fan_in = dice.below(11);
-    let kind = dice.below(6) as u8;
+    let kind = dice.below(7) as u8;
     let mut children: Vec<u16> = (0..fan_in).map(|_| dice.below(gate + 2) as u16).collect();
     children.sort();
     draft.gates[gate] = (kind, children);

@@ -1,42 +1,256 @@
-//! What F-1 says of options, of gates without one and of Stuck, tried on all small maps and on random ones. Options are found here by trial, and not
-//! by kinds of gates.
+//! What the documents say of options and of the children that a justified gate needs, and F-1 of gates without an option and of Stuck, tried on all small
+//! maps and on random ones. Options and children are found here by trial, from the subset-minimal justifications of a gate, and not by kinds of gates.
 
 use crate::engine::*;
 use crate::frame::Case;
-use crate::maps::{coded_gates, configurations, has_coded_child, maps_of};
+use crate::maps::{build, coded_gates, configurations, has_coded_child, small_maps};
 use crate::random::random;
+use std::cell::RefCell;
+use std::collections::BTreeMap;
 
 /// A gate's children, by Children.
 fn children_of(map: &[u8], gate: usize) -> Vec<usize> {
     children(map, gate).chunks(2).map(|pair| pair[0] as usize + 256 * pair[1] as usize).collect()
 }
 
+/// The value that a gate of this kind is given by children with these values. F-3: kind 5 "is 1 when at least two are 1."
+fn given(kind: u8, values: &[u8]) -> u8 {
+    let ones = values.iter().filter(|value| **value == 1).count();
+    let yes = match kind {
+        NOT => ones == 0,
+        AND => ones == values.len(),
+        OR => ones > 0,
+        XOR => ones == 1,
+        VOTER => ones >= 2,
+        _ => panic!("no such kind"),
+    };
+    yes as u8
+}
+
 /// "A gate is justified if it is an input or its children give its value."
 fn justified(map: &[u8], values: &[u8], gate: usize) -> bool {
-    let list = children_of(map, gate);
-    let ones = list.iter().filter(|child| values[**child] == 1).count();
-    let given = match map[12 + 4 * gate] {
-        INPUT => return true,
-        NOT => ones == 0,
-        AND => ones == list.len(),
-        OR => ones > 0,
-        _ => ones == 1,
+    let list: Vec<u8> = children_of(map, gate).iter().map(|child| values[*child]).collect();
+    map[12 + 4 * gate] == INPUT || given(map[12 + 4 * gate], &list) == values[gate]
+}
+
+// ------------------------------------------------------------- justifications
+
+/// A value or none for each child of a gate.
+type Partial = Vec<Option<u8>>;
+
+/// All 3^n of `n` children, those first that give a value to the first children.
+fn partials(n: usize) -> Vec<Partial> {
+    let mut list = vec![vec![]];
+    for _ in 0..n {
+        let longer = |partial: &Partial| [Some(0), Some(1), None].map(|value| [&partial[..], &[value]].concat());
+        list = list.iter().flat_map(longer).collect();
+    }
+    list
+}
+
+/// Whether the gate has the value, whatever the children have that are given none.
+fn forces(kind: u8, partial: &Partial, value: u8) -> bool {
+    let agrees = |values: &Vec<u8>| partial.iter().zip(values).all(|(said, value)| said.map_or(true, |said| said == *value));
+    configurations(partial.len() as u16).iter().filter(|values| agrees(values)).all(|values| given(kind, values) == value)
+}
+
+/// The subset-minimal justifications of a gate at this value: those that force it, while none that says less does.
+fn justifications_by_trial(kind: u8, n: usize, value: u8) -> Vec<Partial> {
+    let mut list = partials(n);
+    list.retain(|partial| forces(kind, partial, value));
+    let less = |partial: &Partial, child: usize| {
+        let mut other = partial.clone();
+        other[child] = None;
+        other != *partial && forces(kind, &other, value)
     };
-    given == (values[gate] == 1)
+    list.retain(|partial| !(0..n).any(|child| less(partial, child)));
+    list
+}
+
+thread_local! {
+    static KNOWN: RefCell<BTreeMap<(u8, usize, u8), Vec<Partial>>> = RefCell::new(BTreeMap::new());
+}
+
+/// The same, each found once.
+fn justifications(kind: u8, n: usize, value: u8) -> Vec<Partial> {
+    let known = KNOWN.with(|known| known.borrow().get(&(kind, n, value)).cloned());
+    known.unwrap_or_else(|| {
+        let found = justifications_by_trial(kind, n, value);
+        KNOWN.with(|known| known.borrow_mut().insert((kind, n, value), found.clone()));
+        found
+    })
+}
+
+/// The justifications of a gate that isn't an input, at its value.
+fn justifications_of(map: &[u8], values: &[u8], gate: usize) -> Vec<Partial> {
+    justifications(map[12 + 4 * gate], children_of(map, gate).len(), values[gate])
+}
+
+/// The places of the children that are given a value.
+fn named(partial: &Partial) -> Vec<usize> {
+    (0..partial.len()).filter(|place| partial[*place].is_some()).collect()
+}
+
+/// A voter's are the three pairs at its value, of 27 partial assignments of three children; seven of these force it, and thirteen force nothing.
+#[test]
+fn a_voter_is_justified_by_pairs() {
+    assert_eq!(partials(3).len(), 27);
+    let mut free = partials(3);
+    for value in [0, 1] {
+        let some = Some(value);
+        let mut list = justifications(VOTER, 3, value);
+        list.sort_by_key(named);
+        assert_eq!(list, [[some, some, None], [some, None, some], [None, some, some]]);
+        assert_eq!(partials(3).iter().filter(|partial| forces(VOTER, partial, value)).count(), 7);
+        free.retain(|partial| !forces(VOTER, partial, value));
+    }
+    assert_eq!(free.len(), 13);
+}
+
+/// As document 01 counts them, of each other kind and fan-in.
+#[test]
+fn other_gates_are_justified_as_document_01_says() {
+    let count = |kind, n, value| justifications(kind, n, value).len();
+    assert_eq!([count(NOT, 1, 0), count(NOT, 1, 1), count(XOR, 2, 0), count(XOR, 2, 1)], [1, 1, 2, 2]);
+    for n in 2..=8 {
+        assert_eq!([count(AND, n, 1), count(OR, n, 0), count(AND, n, 0), count(OR, n, 1)], [1, 1, n, n]);
+    }
 }
 
 fn with_turned(values: &[u8], gates: &[usize]) -> Vec<u8> {
     (0..values.len()).map(|gate| values[gate] ^ gates.contains(&gate) as u8).collect()
 }
 
-/// The smallest sets of children that justify the gate once they are turned, found by trying each set. "Only these minimal justifications are used."
+/// "Only these minimal justifications are used.", and "A gate belongs to an option only if the option turns it.": for each minimal justification of a gate
+/// of the front the children that it turns. They are numbered by the children that they name, and those of a XOR, which name the same, by those they turn.
 fn options_by_trial(map: &[u8], values: &[u8], gate: usize) -> Vec<Vec<usize>> {
     let list = children_of(map, gate);
-    let chosen = |set: usize| -> Vec<usize> { (0..list.len()).filter(|place| set >> place & 1 == 1).map(|place| list[place]).collect() };
-    let enough: Vec<usize> = (1..1 << list.len()).filter(|set| justified(map, &with_turned(values, &chosen(*set)), gate)).collect();
-    let minimal = |set: &usize| !enough.iter().any(|other| other != set && other & set == *other);
-    enough.iter().cloned().filter(minimal).map(chosen).collect()
+    let turned = |partial: &Partial| -> Vec<usize> {
+        named(partial).into_iter().filter(|place| partial[*place] != Some(values[list[*place]])).map(|place| list[place]).collect()
+    };
+    let mut options: Vec<(Vec<usize>, Vec<usize>)> =
+        justifications_of(map, values, gate).iter().map(|partial| (named(partial), turned(partial))).collect();
+    options.sort();
+    options.into_iter().map(|(_, turned)| turned).collect()
 }
+
+/// "The parts of a subset-minimal justification that agree with the configuration": the children that are named by a justification of the gate whose every
+/// value they have.
+fn relevant_by_trial(map: &[u8], values: &[u8], gate: usize) -> Vec<usize> {
+    let list = children_of(map, gate);
+    let agrees = |partial: &Partial| named(partial).into_iter().all(|place| partial[place] == Some(values[list[place]]));
+    let agreeing: Vec<Partial> = justifications_of(map, values, gate).into_iter().filter(agrees).collect();
+    let places = (0..list.len()).filter(|place| agreeing.iter().any(|partial| partial[*place].is_some()));
+    places.map(|place| list[place]).collect()
+}
+
+/// Survey's bytes: "The cone is the smallest set that has every coded gate and, for each justified gate in it, these children. The front is the cone's
+/// unjustified gates. Interesting gates are the front and all descendants of its gates". A child stands below its parents.
+fn survey_by_trial(map: &[u8], values: &[u8]) -> Vec<u8> {
+    let mut bytes: Vec<u8> = vec![0; values.len()];
+    for gate in coded_gates(map) {
+        bytes[gate] = 1;
+    }
+    for gate in (0..values.len()).rev().filter(|gate| map[12 + 4 * gate] != INPUT) {
+        match (bytes[gate] & 1 == 1, justified(map, values, gate)) {
+            (true, true) => relevant_by_trial(map, values, gate).into_iter().for_each(|child| bytes[child] |= 1),
+            (true, false) => bytes[gate] |= 6,
+            _ => {}
+        }
+        if bytes[gate] & 4 == 4 {
+            children_of(map, gate).into_iter().for_each(|child| bytes[child] |= 4);
+        }
+    }
+    bytes
+}
+
+/// How a gate stands in a survey: at which value, justified or not, with how many children at its value.
+fn stands(map: &[u8], values: &[u8], gate: usize) -> (u8, bool, usize) {
+    let right = children_of(map, gate).iter().filter(|child| values[**child] == values[gate]).count();
+    (values[gate], justified(map, values, gate), right)
+}
+
+fn has(bytes: &[u8], gate: usize, part: u8) -> bool {
+    bytes[gate] & part == part
+}
+
+/// Every small map with every configuration that keeps its codes; and voters of the cone in every way that they can stand: at 0 and at 1,
+/// justified by two children or by three, and in the front with none right or with one.
+#[test]
+fn small_maps_are_surveyed_by_their_justifications() {
+    let (mut surveys, mut voters) = (0, BTreeMap::new());
+    for (n, maps) in small_maps() {
+        for map in maps {
+            for values in configurations(n) {
+                let mut bytes = vec![0; n as usize];
+                if survey(&map, &values, &mut bytes).is_err() {
+                    continue;
+                }
+                assert_eq!(bytes, survey_by_trial(&map, &values), "{map:?} {values:?}");
+                surveys += 1;
+                for gate in (0..n as usize).filter(|gate| map[12 + 4 * gate] == VOTER && has(&bytes, *gate, 1)) {
+                    *voters.entry(stands(&map, &values, gate)).or_insert(0) += 1;
+                }
+            }
+        }
+    }
+    println!("{surveys} surveys, voters of the cone {voters:?}");
+    let expected = [(0, false, 0), (0, false, 1), (0, true, 2), (0, true, 3), (1, false, 0), (1, false, 1), (1, true, 2), (1, true, 3)];
+    assert_eq!(voters.keys().copied().collect::<Vec<_>>(), expected);
+}
+
+/// The same on random cases.
+#[test]
+fn random_maps_are_surveyed_by_their_justifications() {
+    let (mut surveys, mut voters) = (0, BTreeMap::new());
+    for case in (0..6).flat_map(|seed| random(seed, 900)).filter(|case| case.op == b's' || case.op == b'r') {
+        let mut bytes = vec![0; case.body.len()];
+        if survey(&case.map, &case.body, &mut bytes).is_err() {
+            continue;
+        }
+        assert_eq!(bytes, survey_by_trial(&case.map, &case.body), "{case:?}");
+        surveys += 1;
+        for gate in (0..bytes.len()).filter(|gate| case.map[12 + 4 * gate] == VOTER && has(&bytes, *gate, 1)) {
+            *voters.entry(stands(&case.map, &case.body, gate)).or_insert(0) += 1;
+        }
+    }
+    println!("{surveys} random surveys, voters of the cone {voters:?}");
+    assert!(voters.len() == 8 && voters.values().all(|count| *count >= 10));
+}
+
+/// A voter's options over inputs: a pair through a child that is right turns the other one, a pair of wrong ones turns both.
+#[test]
+fn a_voter_has_its_three_pairs() {
+    let mut turned = [0; 3];
+    for value in [0, 1] {
+        let gates = [(INPUT, vec![]), (INPUT, vec![]), (INPUT, vec![]), (VOTER, vec![0, 1, 2])];
+        let map = build(&gates, &[(3, value)]);
+        for row in configurations(3) {
+            let start = [&row[..], &[value]].concat();
+            let right: Vec<usize> = (0..3).filter(|child| row[*child] == value).collect();
+            if right.len() >= 2 {
+                assert!(justified(&map, &start, 3));
+                assert_eq!(relevant_by_trial(&map, &start, 3), right);
+                continue;
+            }
+            for (option, pair) in [[0, 1], [0, 2], [1, 2]].into_iter().enumerate() {
+                let mut after = start.clone();
+                pair.into_iter().for_each(|child: usize| after[child] = value);
+                for kind in [DOWN, UP] {
+                    let (mut configuration, mut work) = (start.clone(), vec![0; 4]);
+                    let count = pair.into_iter().filter(|child| !right.contains(child)).count();
+                    assert_eq!(make_move(&map, &mut configuration, &[0, 0, kind, option as u8], &mut work), Ok((3, count as u64)));
+                    assert_eq!(configuration, after);
+                    turned[count] += 1;
+                }
+            }
+        }
+    }
+    // At each value one row with none right, three pairs of two, and three rows with one right: two pairs of one and one of two; each by both kinds.
+    assert_eq!(turned, [0, 24, 24]);
+}
+
+// -------------------------------------------------------------------- entries
 
 /// "of the options with the smallest interest set after the move, in rising order": the sizes are Survey's.
 fn smallest(map: &[u8], values: &[u8], options: &[Vec<usize>]) -> Vec<Vec<usize>> {
@@ -89,6 +303,16 @@ fn expect_said(map: &[u8], values: &[u8], entry: [u8; 4]) -> (usize, Vec<usize>,
     (drawn, turned, any)
 }
 
+/// What an entry turns: nothing, the drawn gate itself, one child or more.
+fn turning(drawn: usize, turned: &[usize]) -> &'static str {
+    match turned {
+        [] => "nothing",
+        [gate] if *gate == drawn => "itself",
+        [_] => "one child",
+        _ => "two children",
+    }
+}
+
 /// Entries of every kind, draw and option that can differ on maps of up to four gates.
 fn entries() -> Vec<[u8; 4]> {
     let mut list = Vec::new();
@@ -100,37 +324,42 @@ fn entries() -> Vec<[u8; 4]> {
     list
 }
 
-/// Every map of up to four gates with every start: what an entry turns, and "Stuck must never occur on a map that some state satisfies." On four gates
-/// each start takes one entry in three, by turn.
+/// Every small map with every start: what an entry turns, and "Stuck must never occur on a map that some state satisfies." On four and five gates each start
+/// takes one entry in three, by turn.
 #[test]
 fn small_maps_turn_what_is_left() {
-    let (mut number, mut stuck, mut for_want) = (0, 0, 0);
-    for n in 1..=4 {
-        for map in maps_of(n) {
+    let (mut number, mut stuck, mut for_want, mut voters) = (0, 0, 0, BTreeMap::new());
+    for (n, maps) in small_maps() {
+        for map in maps {
             let satisfied = configurations(n).iter().any(|values| mark(&map, values) == Ok(true));
             for start in configurations(n) {
                 if !matches!(survey(&map, &start, &mut vec![0; n as usize]), Ok((front, _)) if front > 0) {
                     continue;
                 }
                 number += 1;
-                let (first, step) = if n == 4 { (number % 3, 3) } else { (0, 1) };
+                let (first, step) = if n >= 4 { (number % 3, 3) } else { (0, 1) };
                 for entry in entries().into_iter().skip(first).step_by(step) {
                     let (drawn, turned, any) = expect_said(&map, &start, entry);
                     assert!(!turned.is_empty() || !satisfied, "Stuck where some state satisfies: {map:?} {start:?}");
                     stuck += turned.is_empty() as u32;
                     for_want += (turned == [drawn] && !any) as u32;
+                    if map[12 + 4 * drawn] == VOTER {
+                        *voters.entry(turning(drawn, &turned)).or_insert(0) += 1;
+                    }
                 }
             }
         }
     }
     println!("{number} starts with a front; {stuck} entries Stuck, {for_want} that turn the drawn gate for want of options");
+    println!("moves of voters: {voters:?}");
     assert!(stuck > 1000 && for_want > 1000);
+    assert!(voters.len() == 4 && voters.values().all(|count| *count >= 100));
 }
 
 /// The same on the moves among random cases.
 #[test]
 fn random_maps_turn_what_is_left() {
-    let (mut stuck, mut for_want, mut fewer) = (0, 0, 0);
+    let (mut stuck, mut for_want, mut fewer, mut voters) = (0, 0, 0, BTreeMap::new());
     for case in (20..32).flat_map(|seed| random(seed, 800)).filter(|case| case.op == b'v' && case.tape.len() == 4) {
         let mut work = vec![0; case.room];
         if make_move(&case.map, &mut case.body.clone(), &case.tape, &mut work).is_err() {
@@ -141,11 +370,16 @@ fn random_maps_turn_what_is_left() {
             let (drawn, turned, any) = expect_said(&case.map, &case.body, entry);
             stuck += turned.is_empty() as u32;
             for_want += (turned == [drawn] && !any) as u32;
+            if case.map[12 + 4 * drawn] == VOTER {
+                *voters.entry(turning(drawn, &turned)).or_insert(0) += 1;
+            }
             fewer += (any && options_by_trial(&case.map, &case.body, drawn).iter().flatten().any(|gate| coded_gates(&case.map).contains(gate))) as u32;
         }
     }
     println!("random moves: {stuck} Stuck, {for_want} that turn the drawn gate for want of options, {fewer} with some options out");
+    println!("random moves of voters: {voters:?}");
     assert!(stuck > 100 && for_want > 100 && fewer > 50);
+    assert!(voters.len() == 4 && voters.values().all(|count| *count >= 10));
 }
 
 /// Whether some row shows the codes, for maps of up to 10 inputs.

@@ -4,7 +4,7 @@
 //! F-2: "keep one total as the gates go by, shown at each gate to be the sum of all earlier fan-ins. Every map gets the same verdict as today." A total
 //! that goes by while kinds are tested invites to test positions in the same pass, and a total can be kept wrongly in a few ways; both are tried here.
 
-use crate::engine::{AND, INPUT, NOT, OR, XOR};
+use crate::engine::{AND, INPUT, NOT, OR, VOTER, XOR};
 use crate::maps::{gate_lists, records, Draft, Records};
 use crate::reading::{allowed, reading};
 use std::collections::{BTreeMap, BTreeSet};
@@ -124,13 +124,13 @@ fn put_positions(map: &mut Records, rule: Rule, counted: bool) {
 
 // ------------------------------------------------------------------ one fault
 
-/// "4. A kind is above 4 or a fan-in isn't allowed for its kind." Kinds above 4, other kinds that don't allow the fan-in, and fan-ins that the kind
-/// doesn't allow, which move all later positions too.
+/// "4. A kind is above 4 or a fan-in isn't allowed for its kind.", and by F-3 it "now allows kind 5, with fan-in 3 only." Kinds above 5, other kinds that
+/// don't allow the fan-in, and fan-ins that the kind doesn't allow, which move all later positions too.
 fn faults_of_4(map: &Records) -> Vec<Fault> {
     let mut list = Vec::new();
     for (place, (kind, fan_in, _)) in map.gates.iter().enumerate() {
-        let kinds = [INPUT, NOT, AND, OR, XOR, 5, 255].into_iter().filter(|other| !allowed(*other, *fan_in as usize));
-        let fan_ins = [0, 1, 2, 3, 9, 255].into_iter().filter(|other| !allowed(*kind, *other as usize));
+        let kinds = [INPUT, NOT, AND, OR, XOR, VOTER, 6, 255].into_iter().filter(|other| !allowed(*other, *fan_in as usize));
+        let fan_ins = [0, 1, 2, 3, 4, 9, 255].into_iter().filter(|other| !allowed(*kind, *other as usize));
         let changes = kinds.map(Change::Kind).chain(fan_ins.map(Change::FanIn));
         list.extend(changes.map(|change| Fault { test: 4, place, change }));
     }
@@ -329,7 +329,7 @@ fn shaped(list: &[(u8, u16)]) -> Draft {
 
 /// 1,024 gates, eight inputs first; positions up to 2,766, so that both bytes of them count.
 fn large() -> Draft {
-    let cycle = [(INPUT, 0), (NOT, 1), (XOR, 2), (AND, 3), (OR, 8), (INPUT, 0), (AND, 2), (AND, 8), (NOT, 1), (OR, 5), (INPUT, 0)];
+    let cycle = [(INPUT, 0), (NOT, 1), (XOR, 2), (VOTER, 3), (OR, 8), (INPUT, 0), (AND, 2), (AND, 8), (NOT, 1), (OR, 5), (INPUT, 0)];
     let list: Vec<(u8, u16)> = (0..1024).map(|number| if number < 8 { (INPUT, 0) } else { cycle[number % 11] }).collect();
     shaped(&list)
 }
@@ -345,6 +345,7 @@ pub fn bases() -> Vec<Draft> {
         shaped(&[i, (NOT, 1), i, (XOR, 2), (AND, 3), i, (OR, 2), (OR, 4), i]),
         shaped(&[i, i, i, (OR, 3), (XOR, 2), (NOT, 1), (AND, 2), (AND, 5)]),
         shaped(&[i, (NOT, 1), (NOT, 1), (NOT, 1), i, i, (XOR, 2), (XOR, 2)]),
+        shaped(&[i, i, i, (VOTER, 3), i, (VOTER, 3), (NOT, 1), (VOTER, 3), i]),
         shaped(&[i, i, i, i, i, i, i, i, (AND, 8), (OR, 8), (NOT, 1), (OR, 7), i]),
     ];
     every.chain(longer).chain([large()]).collect()

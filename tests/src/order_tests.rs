@@ -1,8 +1,8 @@
 //! The number of a map is that of the first test that fails, whichever gate it fails at; and the cases that try this tell wrong checkers apart.
 
-use crate::engine::{check, AND, INPUT, NOT, OR, XOR};
+use crate::engine::{check, AND, INPUT, NOT, OR, VOTER, XOR};
 use crate::order::*;
-use crate::reading::{reading, Reading};
+use crate::reading::{allowed, reading, Reading};
 use std::collections::BTreeSet;
 
 #[test]
@@ -66,7 +66,7 @@ fn the_base_maps_are_not_bare() {
         sorts.extend(base.gates.iter().map(|(kind, children)| (*kind, children.len())));
         assert!(!base.codes.is_empty());
     }
-    for sort in [(INPUT, 0), (NOT, 1), (XOR, 2), (AND, 2), (AND, 3), (AND, 5), (AND, 8), (OR, 2), (OR, 3), (OR, 4), (OR, 7), (OR, 8)] {
+    for sort in [(INPUT, 0), (NOT, 1), (XOR, 2), (AND, 2), (AND, 3), (AND, 5), (AND, 8), (OR, 2), (OR, 3), (OR, 4), (OR, 7), (OR, 8), (VOTER, 3)] {
         assert!(sorts.contains(&sort), "{sort:?}");
     }
     assert!(between >= 3 && behind >= 3, "{between} {behind}");
@@ -94,6 +94,20 @@ enum Wrong {
     LowByte,
     /// The total is kept in one byte.
     OneByte,
+    /// The kind is allowed with this fan-in too.
+    Allowed(u8, usize),
+    /// Kind 5 isn't allowed at all.
+    NoVoter,
+}
+
+/// The first gate at which the checker finds test 4 failing.
+fn wrong_kind(r: &Reading, wrong: &Wrong) -> Option<usize> {
+    let fails = |kind: u8, fan_in: usize| match wrong {
+        Wrong::Allowed(other, more) if (kind, fan_in) == (*other, *more) => false,
+        Wrong::NoVoter if kind == VOTER => true,
+        _ => !allowed(kind, fan_in),
+    };
+    r.gates.iter().position(|(kind, fan_in, _)| fails(*kind, *fan_in))
 }
 
 /// The first gate at which the checker finds a wrong position; for the child count, the gate count.
@@ -133,6 +147,9 @@ fn wrong_checkers() -> Vec<Wrong> {
         order.swap(one, other);
         list.push(Wrong::Order(order));
     }
+    // A voter of two or of four, kind 6 like an input, like a XOR and like a voter, and what F-3 has changed.
+    list.extend([(VOTER, 2), (VOTER, 4), (6, 0), (6, 2), (6, 3)].map(|(kind, fan_in)| Wrong::Allowed(kind, fan_in)));
+    list.push(Wrong::NoVoter);
     let passes = [vec![4, 5], vec![5, 4], vec![5, 6], vec![6, 5], vec![4, 5, 6]];
     list.extend(passes.map(Wrong::OnePass));
     list
@@ -148,8 +165,8 @@ fn wrong_checkers_are_told_apart() {
     for base in bases() {
         for case in cases(&base).into_iter().step_by(if is_small(&base) { 1 } else { 10 }) {
             let r = reading(&map_with(&base, &case));
-            let (kind, child, code) = (r.wrong_kind(), r.wrong_child(), (!r.codes_right()).then_some(0));
-            let number = |wrong: &Wrong| verdict(&[(4, kind), (5, wrong_total(&r, wrong)), (6, child), (7, code)], wrong);
+            let (child, code) = (r.wrong_child(), (!r.codes_right()).then_some(0));
+            let number = |wrong: &Wrong| verdict(&[(4, wrong_kind(&r, wrong)), (5, wrong_total(&r, wrong)), (6, child), (7, code)], wrong);
             assert_eq!(number(&Wrong::Nothing), expected(&case), "{case:?}");
             for (checker, cases) in wrong.iter().zip(&mut told) {
                 *cases += (!case.is_empty() && number(checker) != expected(&case)) as u32;

@@ -1,7 +1,7 @@
 //! Random cases from a seed.
 
 use crate::dice::Dice;
-use crate::engine::{self, AND, DOWN, GREEDY, INPUT, OR, UP};
+use crate::engine::{self, AND, DOWN, GREEDY, INPUT, OR, UP, VOTER};
 use crate::fixed;
 use crate::frame::{Case, RANDOM_LIMIT};
 use crate::maps::{break_code, damage_body, damage_bytes, damage_draft, keep_codes, near, random_draft, Draft};
@@ -62,14 +62,14 @@ fn surveyed_bytes(map: &[u8], body: &[u8]) -> Vec<u8> {
     }
 }
 
-/// Puts a gate with one option per child into the front: of some AND at 0 in
-/// the cone all children become 1, of some OR at 1 all become 0, but for those
-/// that are coded.
+/// Puts a gate with several options into the front: of some AND at 0 in the cone
+/// all children become 1, of some OR at 1 all become 0, and of some voter all or
+/// all but one become what it isn't, but for those that are coded.
 fn open_choice(dice: &mut Dice, draft: &Draft, map: &[u8], body: &mut [u8]) {
     let mut choices = Vec::new();
     for (gate, byte) in surveyed_bytes(map, body).iter().enumerate() {
         let kind = draft.gates[gate].0;
-        if byte % 2 == 1 && [(AND, 0), (OR, 1)].contains(&(kind, body[gate])) {
+        if byte % 2 == 1 && [(AND, 0), (OR, 1), (VOTER, body[gate])].contains(&(kind, body[gate])) {
             choices.push(gate);
         }
     }
@@ -77,8 +77,12 @@ fn open_choice(dice: &mut Dice, draft: &Draft, map: &[u8], body: &mut [u8]) {
         return;
     }
     let gate = choices[dice.below(choices.len())];
-    for child in &draft.gates[gate].1 {
+    let (kind, children) = &draft.gates[gate];
+    for child in children {
         body[*child as usize] = 1 - body[gate];
+    }
+    if *kind == VOTER && dice.one_in(2) {
+        body[children[dice.below(3)] as usize] = body[gate];
     }
     keep_codes(draft, body);
 }

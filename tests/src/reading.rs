@@ -1,7 +1,7 @@
 //! Which of document 01's tests of a map fail, each asked on its own as far as the bytes let it be asked: a third reading of the list, beside the two
 //! engines.
 
-use crate::engine::{AND, INPUT, NOT, OR, XOR};
+use crate::engine::{AND, INPUT, NOT, OR, VOTER, XOR};
 
 /// What can be read of a map that needn't be right: records as many as the contents say and as lie in the map.
 pub struct Reading {
@@ -37,13 +37,14 @@ pub fn reading(map: &[u8]) -> Reading {
     }
 }
 
-/// "Fan-in: 0 for an input, 1 for NOT, 2 for XOR, 2 to 8 for AND and OR."
+/// "Fan-in: 0 for an input, 1 for NOT, 2 for XOR, 2 to 8 for AND and OR." and "kind 5, with fan-in 3 only." (F-3)
 pub fn allowed(kind: u8, fan_in: usize) -> bool {
     match kind {
         INPUT => fan_in == 0,
         NOT => fan_in == 1,
         XOR => fan_in == 2,
         AND | OR => (2..=8).contains(&fan_in),
+        VOTER => fan_in == 3,
         _ => false,
     }
 }

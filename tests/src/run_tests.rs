@@ -5,7 +5,7 @@ use crate::engine::*;
 use crate::fixed::adder;
 use crate::frame::*;
 use crate::inputs::{inputs, pieces};
-use crate::maps::{build, configurations, has_coded_child, maps_of};
+use crate::maps::{build, configurations, has_coded_child, maps_of, small_maps, voters_below_a_not};
 use crate::random::{program_inputs, random};
 use std::collections::BTreeSet;
 
@@ -153,7 +153,8 @@ fn a_and_b_differ_at_four_gates() {
 }
 
 /// Every entry that can matter in a map of four gates: no front has more than
-/// three gates, none of them more than three options.
+/// three gates, none of them more than three options. (With a NOT above them there
+/// may be four; the three lowest will do.)
 fn small_entries() -> Vec<[u8; 4]> {
     let mut list = Vec::new();
     for draw in 0..3 {
@@ -172,8 +173,8 @@ fn small_entries() -> Vec<[u8; 4]> {
 #[test]
 fn some_tape_finds_where_some_state_satisfies() {
     let (mut maps, mut hopeless) = (0, 0);
-    for n in 1..=4 {
-        for map in maps_of(n) {
+    for (n, of_n) in small_maps() {
+        for map in of_n {
             let starts = starts(&map, n);
             let ends = |start: &Vec<u8>| ran(&map, start, &[]).record.ending == Ending::Found;
             let mut finds: BTreeSet<Vec<u8>> = starts.iter().filter(|start| ends(start)).cloned().collect();
@@ -201,7 +202,7 @@ fn some_tape_finds_where_some_state_satisfies() {
             hopeless += !some as u32;
         }
     }
-    println!("{maps} maps of up to four gates, {hopeless} that no state satisfies");
+    println!("{maps} small maps, {hopeless} that no state satisfies");
     assert!(maps > 1000 && hopeless > 100);
 }
 
@@ -248,8 +249,8 @@ fn expect_key(map: &[u8], outcome: &Ran) {
 #[test]
 fn found_gives_a_key_on_all_small_maps() {
     let mut keys = 0;
-    for n in 1..=4 {
-        for map in maps_of(n) {
+    for (n, maps) in small_maps() {
+        for map in maps {
             for start in starts(&map, n) {
                 let outcome = ran(&map, &start, &[]);
                 if outcome.record.ending == Ending::Found {
@@ -265,7 +266,7 @@ fn found_gives_a_key_on_all_small_maps() {
 
 /// Whether kinds and options exist, no kind greedy, with which the run on exactly
 /// these draws ends Found within `bound` moves and flips. Tried one after the
-/// other; a map of four gates has no gate with more than three options.
+/// other; no gate of these maps has more than three options.
 fn some_choice_finds(map: &[u8], start: &[u8], draws: &[u16], bound: usize) -> bool {
     let choices = [[UP, 0], [DOWN, 0], [DOWN, 1], [DOWN, 2]];
     (0..1u32 << (2 * draws.len())).any(|number| {
@@ -281,8 +282,8 @@ fn some_choice_finds(map: &[u8], start: &[u8], draws: &[u16], bound: usize) -> b
 
 /// "For every such start and every satisfying assignment of all gates": each
 /// with the number of gates where they differ.
-fn for_every_pair(n: u16, mut each: impl FnMut(&[u8], &[u8], usize)) {
-    for map in maps_of(n) {
+fn for_every_pair(n: u16, maps: Vec<Vec<u8>>, mut each: impl FnMut(&[u8], &[u8], usize)) {
+    for map in maps {
         let assignments = satisfying(&map, n);
         for start in starts(&map, n) {
             let counts: BTreeSet<usize> = assignments.iter().map(|values| differing(&start, values)).collect();
@@ -299,7 +300,7 @@ fn for_every_pair(n: u16, mut each: impl FnMut(&[u8], &[u8], usize)) {
 fn every_list_of_draws_can_find_in_time() {
     let mut lists = 0;
     for n in 1..=3 {
-        for_every_pair(n, |map, start, count| {
+        for_every_pair(n, maps_of(n), |map, start, count| {
             for bits in 0..1u32 << count {
                 let draws: Vec<u16> = (0..count).map(|place| (bits >> place & 1) as u16).collect();
                 assert!(some_choice_finds(map, start, &draws, count), "{map:?} {start:?} {draws:?}");
@@ -311,16 +312,19 @@ fn every_list_of_draws_can_find_in_time() {
     assert!(lists > 500);
 }
 
-/// Demand 3 on all maps of four gates, with one list of draws for each pair.
+/// Demand 3 on all maps of four gates, and on all of three with a voter over them and a
+/// NOT of it, with one list of draws for each pair.
 #[test]
 fn a_list_of_draws_can_find_in_time_on_four_gates() {
     let mut lists: u32 = 0;
-    for_every_pair(4, |map, start, count| {
-        let draws: Vec<u16> = (0..count as u32).map(|place| (lists * 7919 + place * 40_503) as u16).collect();
-        assert!(some_choice_finds(map, start, &draws, count), "{map:?} {start:?} {draws:?}");
-        lists += 1;
-    });
-    println!("{lists} lists of draws on four gates");
+    for (n, maps) in [(4, maps_of(4)), (5, voters_below_a_not())] {
+        for_every_pair(n, maps, |map, start, count| {
+            let draws: Vec<u16> = (0..count as u32).map(|place| (lists * 7919 + place * 40_503) as u16).collect();
+            assert!(some_choice_finds(map, start, &draws, count), "{map:?} {start:?} {draws:?}");
+            lists += 1;
+        });
+    }
+    println!("{lists} lists of draws on four gates, and on five");
     assert!(lists > 5000);
 }
 
@@ -473,7 +477,7 @@ fn random_draws_can_find_in_time() {
 /// The runs among random cases meet every number and end in all sorts of places.
 #[test]
 fn random_runs_are_not_bare() {
-    let cases = random_runs(0..10);
+    let cases = random_runs(0..14);
     let (mut at_once, mut midway, mut at_the_end, mut spent, mut long, mut refused) = (0, 0, 0, 0, 0, BTreeSet::new());
     let (mut fronts, mut most, mut stuck, mut stuck_later) = (0, 0, 0, 0);
     for case in &cases {

@@ -7,7 +7,7 @@ use crate::failing::{failing, never_alone, never_both, numbers_of};
 use crate::harness::Harness;
 use crate::random::random_call;
 use peeriewick_tests::dice::Dice;
-use peeriewick_tests::engine::{AND, DOWN, INPUT, NOT, OR, XOR};
+use peeriewick_tests::engine::{AND, DOWN, INPUT, NOT, OR, VOTER, XOR};
 use peeriewick_tests::maps::{damage_body, damage_bytes, near, push16, raw};
 use peeriewick_tests::random::damage_tape;
 
@@ -52,11 +52,15 @@ struct Parts {
     rooms: (usize, usize),
 }
 
-/// Gate 2 is an input and nobody's child; gate 6 is coded and not justified, save in a start that the fault of 15 changes. One time in two a child
-/// is coded too.
+/// Gate 2 is an input and nobody's child; gate 6 is coded and not justified, save in a start that the fault of 15 changes; a third of the time it is a
+/// voter. One time in two a child is coded too.
 fn base(dice: &mut Dice, kind: Kind) -> Parts {
     let value = dice.bit();
-    let top = if value == 1 { OR } else { AND };
+    let top = match dice.below(3) {
+        0 => VOTER,
+        _ if value == 1 => OR,
+        _ => AND,
+    };
     let gates = vec![
         (INPUT, 0, 0),
         (INPUT, 0, 0),
@@ -97,10 +101,11 @@ fn too_many_gates(parts: &mut Parts) {
 
 /// A kind or a fan-in that isn't allowed, the sums kept.
 fn wrong_kind(dice: &mut Dice, parts: &mut Parts) {
-    let (gate, kind) = match dice.below(4) {
-        0 => (3 + dice.below(4), 5),
+    let (gate, kind) = match dice.below(5) {
+        0 => (3 + dice.below(4), 6),
         1 => (3 + dice.below(4), 255),
         2 => (6, [NOT, XOR][dice.below(2)]),
+        3 => (3 + dice.below(3), VOTER),
         _ => (5, [AND, OR, XOR][dice.below(3)]),
     };
     parts.gates[gate].0 = kind;
@@ -361,13 +366,14 @@ impl Damaged<'_> {
         Ok(())
     }
 
-    /// Offsets and lengths that are right modulo 65,536 only, and the longest maps that pass test 3.
+    /// Offsets and lengths that are right modulo 65,536 only, and the longest maps that pass test 3, one of 65,532 bytes among them.
     fn wrapped_offsets(&mut self) -> Tried {
         let right = raw(&[(INPUT, 0, 0), (NOT, 1, 0)], &[0], &[(1, 1, 0)]);
         let zeros = |length: usize| vec![0; length];
         let inputs = |n: usize| vec![(INPUT, 0, 0); n];
         let list = [
             raw(&inputs(1), &vec![0; 32_768], &[])[..16].to_vec(),
+            raw(&inputs(1), &vec![0; 32_758], &[]),
             raw(&inputs(1), &vec![0; 32_768], &[]),
             raw(&inputs(1), &vec![0; 32_768], &[(0, 0, 0)]),
             raw(&inputs(1), &[], &vec![(0, 0, 0); 16_384])[..16].to_vec(),

@@ -5,8 +5,8 @@ use crate::dress::{dressed, enough};
 use crate::engines::Told;
 use crate::harness::Harness;
 use peeriewick_tests::dice::Dice;
-use peeriewick_tests::engine::{DOWN, GREEDY, INPUT, UP};
-use peeriewick_tests::maps::{configurations, has_coded_child, maps_of, raw};
+use peeriewick_tests::engine::{DOWN, GREEDY, INPUT, UP, VOTER};
+use peeriewick_tests::maps::{build, configurations, gate_lists, has_coded_child, has_voter, maps_of, raw, voters_below_a_not};
 
 type Tried = Result<(), String>;
 
@@ -26,7 +26,13 @@ pub fn exhaustive(harness: &mut Harness) -> Tried {
         }
     }
     for map in maps_of(4) {
-        all.four_gates(&map)?;
+        match has_voter(&map) {
+            true => all.voter_of_four(&map)?,
+            false => all.four_gates(&map)?,
+        }
+    }
+    for map in voters_below_a_not() {
+        all.voter_of_five(&map)?;
     }
     all.one_gate()?;
     all.two_gates()?;
@@ -133,6 +139,44 @@ impl Exhaustive<'_> {
         Ok(())
     }
 
+    /// A map of four gates with a voter: the calls of a state; from every start that keeps the codes every single entry with options 0 to 3, and from those
+    /// with a front every two entries with options 0 to 2, the first of them drawing each gate of the front.
+    fn voter_of_four(&mut self, map: &[u8]) -> Tried {
+        self.state_calls(map, 4)?;
+        for start in configurations(4) {
+            let told = self.call(Call::new(Kind::Survey, map).with_body(&start), 4)?;
+            if told.number != 0 {
+                continue;
+            }
+            for entry in entries(3, 4) {
+                self.call(Call::new(Kind::Move, map).with_body(&start).with_tape(&entry), 4)?;
+                self.call(Call::new(Kind::Run, map).with_body(&start).with_tape(&entry), 4)?;
+            }
+            for first in entries(told.numbers[0] as u8, 3) {
+                for second in entries(2, 3) {
+                    self.call(Call::new(Kind::Run, map).with_body(&start).with_tape(&[first, second].concat()), 4)?;
+                }
+            }
+        }
+        Ok(())
+    }
+
+    /// A map of five gates with a voter below a NOT: check, survey, and single entries that draw each gate of the front.
+    fn voter_of_five(&mut self, map: &[u8]) -> Tried {
+        self.call(Call::new(Kind::Check, map), 5)?;
+        for start in configurations(5) {
+            let told = self.call(Call::new(Kind::Survey, map).with_body(&start), 5)?;
+            if told.number != 0 {
+                continue;
+            }
+            for entry in entries(told.numbers[0] as u8, 3) {
+                self.call(Call::new(Kind::Move, map).with_body(&start).with_tape(&entry), 5)?;
+                self.call(Call::new(Kind::Run, map).with_body(&start).with_tape(&entry), 5)?;
+            }
+        }
+        Ok(())
+    }
+
     /// Entries and tapes of every length up to nine, with kinds from 0 to 3.
     fn wrong_tapes(&mut self, map: &[u8], start: &[u8], n: u16) -> Tried {
         for length in 0..10 {
@@ -174,11 +218,11 @@ impl Exhaustive<'_> {
         self.call(call, n).map(|_| ())
     }
 
-    /// One gate with small numbers in every field, up to two children and two codes.
+    /// One gate with small numbers in every field, up to two children or three, and two codes.
     fn one_gate(&mut self) -> Tried {
         let codes: Vec<Vec<(u16, u8, u8)>> = lists(&product3(&[0, 1], &[0, 1, 2], &[0, 1]), 2);
-        let children: Vec<Vec<u16>> = lists(&[0, 1, 2], 2);
-        for gate in product3(&[0, 1, 2, 3, 4, 5, 255], &[0, 1, 2, 8, 9], &[0, 1, 2]) {
+        let children: Vec<Vec<u16>> = [lists(&[0, 1, 2], 2), vec![vec![0, 1, 2]]].concat();
+        for gate in product3(&[0, 1, 2, 3, 4, 5, 6, 255], &[0, 1, 2, 3, 8, 9], &[0, 1, 2]) {
             let gate = (gate.0 as u8, gate.1, gate.2 as u16);
             for children in &children {
                 for codes in &codes {
@@ -193,7 +237,7 @@ impl Exhaustive<'_> {
     fn two_gates(&mut self) -> Tried {
         let codes: Vec<Vec<(u16, u8, u8)>> = lists(&product3(&[0, 1, 2], &[0, 1, 2], &[0, 1]), 1);
         let children: Vec<Vec<u16>> = lists(&[0, 1, 2], 2);
-        let records: Vec<(u8, u8, u16)> = product3(&[0, 1, 2, 5], &[0, 1, 2], &[0, 1])
+        let records: Vec<(u8, u8, u16)> = product3(&[0, 1, 2, 5, 6], &[0, 1, 2], &[0, 1])
             .into_iter()
             .map(|(kind, fan_in, first)| (kind as u8, fan_in, first as u16))
             .collect();
@@ -213,15 +257,23 @@ impl Exhaustive<'_> {
     fn changed_bytes(&mut self) -> Tried {
         for n in 1..=3 {
             for map in maps_of(n) {
-                for one in 0..map.len() {
-                    for byte in (0..13).chain([16, 20, 24, 127, 128, 254, 255]) {
-                        let mut changed = map.clone();
-                        changed[one] = byte;
-                        self.any_map(&changed, n)?;
-                    }
-                    self.second_byte(&map, one, n)?;
-                }
+                self.changed(&map, n)?;
             }
+        }
+        for map in voters_to_change() {
+            self.changed(&map, 4)?;
+        }
+        Ok(())
+    }
+
+    fn changed(&mut self, map: &[u8], n: u16) -> Tried {
+        for one in 0..map.len() {
+            for byte in (0..13).chain([16, 20, 24, 127, 128, 254, 255]) {
+                let mut changed = map.to_vec();
+                changed[one] = byte;
+                self.any_map(&changed, n)?;
+            }
+            self.second_byte(map, one, n)?;
         }
         Ok(())
     }
@@ -240,17 +292,22 @@ impl Exhaustive<'_> {
 
     /// Accepted maps cut off at every length, and longer by up to eight bytes.
     fn cut_and_extended(&mut self) -> Tried {
-        for n in 1..=3 {
-            for map in maps_of(n) {
-                for length in 0..map.len() + 8 {
-                    let mut other = map.clone();
-                    other.resize(length, 0);
-                    self.any_map(&other, n)?;
-                }
+        let small = (1..=3).flat_map(|n| maps_of(n).into_iter().map(move |map| (n, map)));
+        for (n, map) in small.chain(voters_to_change().into_iter().map(|map| (4, map))) {
+            for length in 0..map.len() + 8 {
+                let mut other = map.clone();
+                other.resize(length, 0);
+                self.any_map(&other, n)?;
             }
         }
         Ok(())
     }
+}
+
+/// Each list of three gates with a voter over them, and one code, on each gate by turn.
+fn voters_to_change() -> Vec<Vec<u8>> {
+    let voters = gate_lists(3).into_iter().map(|three| [&three[..], &[(VOTER, vec![0, 1, 2])]].concat());
+    voters.enumerate().map(|(number, gates)| build(&gates, &[(number as u16 % 4, number as u8 / 4 % 2)])).collect()
 }
 
 /// Every choice of three numbers.

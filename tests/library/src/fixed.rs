@@ -4,7 +4,7 @@ use crate::call::{Call, Kind};
 use crate::engines::{FOUND, SPENT, STUCK};
 use crate::harness::Harness;
 use crate::lend::Way;
-use peeriewick_tests::engine::{AND, DOWN, GREEDY, INPUT, NOT, OR, UP};
+use peeriewick_tests::engine::{AND, DOWN, GREEDY, INPUT, NOT, OR, UP, VOTER};
 use peeriewick_tests::fixed;
 use peeriewick_tests::frame::{Case, PATTERN};
 use peeriewick_tests::maps::build;
@@ -26,7 +26,8 @@ pub fn fixed(harness: &mut Harness) -> Tried {
     examples.mark()?;
     examples.survey()?;
     examples.make_move()?;
-    examples.run()
+    examples.run()?;
+    examples.voters()
 }
 
 /// The call of a case; none for the program's.
@@ -98,6 +99,11 @@ fn three_nots() -> Vec<u8> {
     let mut gates = vec![(INPUT, vec![]); 3];
     gates.extend((0..3).map(|input| (NOT, vec![input])));
     build(&gates, &[(3, 1), (4, 1), (5, 1)])
+}
+
+/// Three inputs and a voter over them, coded 1.
+fn voter() -> Vec<u8> {
+    build(&[(INPUT, vec![]), (INPUT, vec![]), (INPUT, vec![]), (VOTER, vec![0, 1, 2])], &[(3, 1)])
 }
 
 struct Examples<'a> {
@@ -184,5 +190,29 @@ impl Examples<'_> {
         self.expect(call(&half_stuck(), &[0, 0, 1, 1], &second), 0, &[SPENT, 1, 1, 1, BEFORE])?;
         self.expect(call(&smallest_stuck(), &[0, 0], &[]), 0, &[SPENT, 0, 0, 1, BEFORE])?;
         self.expect(call(&self.adder, &A, &[0]), 12, &[BEFORE; 5])
+    }
+
+    /// Every call on a coded voter. The first child of `start` is right, so that the pairs through it turn one gate and the third pair turns two. Its map has
+    /// the children at byte 28, and its record at 24; as a voter of two and as kind 6 it is refused.
+    fn voters(&mut self) -> Tried {
+        let (map, start) = (voter(), [1, 0, 0, 1]);
+        let on = |kind: Kind, body: &[u8], tape: &[u8]| with_memory(Call::new(kind, &map).with_body(body).with_tape(tape), 6, 6);
+        self.expect(Call::new(Kind::Check, &map), 0, &[4, 3, 3, 1, BEFORE])?;
+        self.expect(Call { gate: 3, ..Call::new(Kind::Children, &map) }, 0, &[28, 6, BEFORE])?;
+        self.expect(Call::new(Kind::Mark, &map).with_body(&[1, 0, 1, 1]), 0, &[1, BEFORE])?;
+        self.expect(Call::new(Kind::Mark, &map).with_body(&start), 0, &[0, BEFORE])?;
+        self.expect(with_memory(Call::new(Kind::Survey, &map).with_body(&start), 6, 0), 0, &[1, 4, BEFORE])?;
+        for (option, turned) in [(0, 1), (1, 1), (2, 2), (3, 1), (254, 2), (255, 1)] {
+            let entry = [0, 0, DOWN, option];
+            self.expect(with_memory(Call::new(Kind::Move, &map).with_body(&start).with_tape(&entry), 6, 0), 0, &[3, turned, BEFORE])?;
+            self.expect(on(Kind::Run, &start, &entry), 0, &[FOUND, 1, turned, 0, BEFORE])?;
+        }
+        self.expect(on(Kind::Run, &start, &[]), 0, &[SPENT, 0, 0, 1, BEFORE])?;
+        for (place, byte) in [(24, 6), (25, 2)] {
+            let mut wrong = map.clone();
+            wrong[place] = byte;
+            self.expect(Call::new(Kind::Check, &wrong), 4, &[BEFORE; 5])?;
+        }
+        Ok(())
     }
 }

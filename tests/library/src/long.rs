@@ -7,7 +7,7 @@ use crate::harness::Harness;
 use crate::lend::Pages;
 use peeriewick::raw;
 use peeriewick_tests::dice::Dice;
-use peeriewick_tests::engine::{AND, DOWN, GREEDY, INPUT, NOT, OR, UP};
+use peeriewick_tests::engine::{AND, DOWN, GREEDY, INPUT, NOT, OR, UP, VOTER};
 use peeriewick_tests::fixed::adder;
 use peeriewick_tests::maps::{build, push16};
 use peeriewick_tests::random::random_entries;
@@ -79,6 +79,30 @@ fn widest(dice: &mut Dice) -> (Vec<u8>, Vec<u8>) {
     (build(&gates, &[(1022, 0), (1023, 1)]), start)
 }
 
+/// Three inputs and voters, each over the three gates before it, 1,024 gates; the last is coded 1 and stands so, all others at 0.
+fn chain_of_voters() -> (Vec<u8>, Vec<u8>) {
+    let mut gates = vec![(INPUT, vec![]); 3];
+    gates.extend((3..1024).map(|gate| (VOTER, vec![gate - 3, gate - 2, gate - 1])));
+    (build(&gates, &[(1023, 1)]), [vec![0; 1023], vec![1]].concat())
+}
+
+/// Voters over three of the ten gates next below, all over 1,024 gates, and two over the same gates at the end that are to differ: no run ends before its
+/// tape.
+fn widest_voters(dice: &mut Dice) -> (Vec<u8>, Vec<u8>) {
+    let mut gates = vec![(INPUT, vec![]); 10];
+    for number in 10..1022u16 {
+        let mut below: Vec<u16> = (number - 10..number).collect();
+        while below.len() > 3 {
+            below.remove(dice.below(below.len()));
+        }
+        gates.push((VOTER, below));
+    }
+    gates.extend(vec![(VOTER, vec![1019, 1020, 1021]); 2]);
+    let mut start: Vec<u8> = (0..1024).map(|_| dice.bit()).collect();
+    start.splice(1022.., [0, 1]);
+    (build(&gates, &[(1022, 0), (1023, 1)]), start)
+}
+
 struct Long<'a> {
     harness: &'a mut Harness,
     dice: Dice,
@@ -88,6 +112,7 @@ pub fn long(harness: &mut Harness) -> Result<String, String> {
     let mut all = Long { harness, dice: Dice(1) };
     all.most_flips()?;
     all.tape_lengths()?;
+    all.entry_lengths()?;
     all.last_entries()?;
     all.stuck_at_the_end()?;
     all.draws()?;
@@ -95,6 +120,7 @@ pub fn long(harness: &mut Harness) -> Result<String, String> {
     all.large_maps()?;
     all.longest_map()?;
     all.large_runs()?;
+    all.voters()?;
     huge_lengths()
 }
 
@@ -131,6 +157,20 @@ impl Long<'_> {
         for entries in [0, 1, 255, 256, 16_381, 16_382] {
             let numbers = [SPENT, entries, 8 * entries, 1];
             self.expect(&map, &start, &[0, 0, DOWN, 0].repeat(entries), 0, &numbers)?;
+        }
+        Ok(())
+    }
+
+    /// Entries of other lengths than four, also such that are four modulo 256 or 65,536.
+    fn entry_lengths(&mut self) -> Tried {
+        let adder = adder();
+        for length in [0, 1, 2, 3, 5, 8, 260, 65_532, 65_535, 65_536, 65_540, 131_076] {
+            let call = Call::new(Kind::Move, &adder).with_body(&[0, 0, 1, 1, 0, 1, 0, 1]).with_tape(&vec![0; length]);
+            let call = dressed(&mut self.dice, call, (8, 0));
+            let told = self.harness.compare(&call)?;
+            if told.number != 12 {
+                return Err(format!("both engines tell {told:?} for an entry of {length} bytes"));
+            }
         }
         Ok(())
     }
@@ -203,18 +243,48 @@ impl Long<'_> {
         Ok(())
     }
 
-    /// A thousand entries of each kind on 1,024 gates.
+    /// A thousand entries of each kind on 1,024 gates, of eight children and of three.
     fn large_runs(&mut self) -> Tried {
-        for kind in [GREEDY, DOWN, UP] {
-            let (map, start) = widest(&mut self.dice);
-            let mut tape = random_entries(&mut self.dice, 1000);
-            tape.iter_mut().skip(2).step_by(4).for_each(|byte| *byte = kind);
-            let told = self.run(&map, &start, &tape)?;
-            if told.1[..2] != [SPENT, 1000] {
-                return Err(format!("both engines tell {told:?} where no state shows the codes"));
+        for made in [widest, widest_voters] {
+            for kind in [GREEDY, DOWN, UP] {
+                let (map, start) = made(&mut self.dice);
+                let mut tape = random_entries(&mut self.dice, 1000);
+                tape.iter_mut().skip(2).step_by(4).for_each(|byte| *byte = kind);
+                let told = self.run(&map, &start, &tape)?;
+                if told.1[..2] != [SPENT, 1000] {
+                    return Err(format!("both engines tell {told:?} where no state shows the codes"));
+                }
             }
         }
         Ok(())
+    }
+
+    /// The chain of voters. Down 2 at the lower of two wrong voters turns the two gates next below it, which are then wrong; at the upper, whose third
+    /// child is right, one. Up 2 on the coded gate is down 2, and then turns gate 1,021 to and fro.
+    fn voters(&mut self) -> Tried {
+        let (map, start) = chain_of_voters();
+        self.every_call(&map, &start, 3)?;
+        self.expect(&map, &start, &[0, 0, DOWN, 2].repeat(510), 0, &[SPENT, 510, 1020, 2])?;
+        self.expect(&map, &start, &[0, 0, DOWN, 2].repeat(511), 0, &[FOUND, 511, 1022, 0])?;
+        self.expect(&map, &start, &[255, 255, DOWN, 2].repeat(1020), 0, &[SPENT, 1020, 1021, 1])?;
+        self.expect(&map, &start, &[255, 255, DOWN, 2].repeat(1021), 0, &[FOUND, 1021, 1022, 0])?;
+        self.expect(&map, &start, &[0, 0, UP, 2].repeat(1000), 0, &[SPENT, 1000, 1001, 1])?;
+        self.expect(&map, &start, &[0, 0, UP, 2].repeat(1001), 0, &[SPENT, 1001, 1002, 2])?;
+        for kind in [GREEDY, DOWN, UP] {
+            let mut tape = random_entries(&mut self.dice, 300);
+            tape.iter_mut().skip(2).step_by(4).for_each(|byte| *byte = kind);
+            self.run(&map, &start, &tape)?;
+        }
+        let row = dressed(&mut self.dice, Call::new(Kind::Evaluate, &map).with_body(&[0, 1, 1]), (1024, 0));
+        let (_, left) = self.harness.compared(&row)?;
+        let middle = [vec![0; 513], vec![1; 511]].concat();
+        let call = dressed(&mut self.dice, Call::new(Kind::Survey, &map).with_body(&middle), (1024, 0));
+        let (told, surveyed) = self.harness.compared(&call)?;
+        let bytes = [vec![4; 513], vec![7; 2], vec![1; 509]].concat();
+        match left.memory == [vec![0], vec![1; 1023]].concat() && surveyed.memory == bytes && told.numbers == [2, 515] {
+            true => Ok(()),
+            false => Err(format!("both engines leave {left} and {surveyed} of the chain of voters")),
+        }
     }
 
     /// The longest map through every call, as it is and with its last code turned: gate 1,023 is then Stuck, as all its children are coded.

@@ -6,7 +6,7 @@ use crate::engines::{Outcome, Told, FOUND, SPENT, STUCK};
 use crate::harness::Harness;
 use crate::shapes::{made, Made, SHAPES};
 use peeriewick_tests::dice::Dice;
-use peeriewick_tests::engine::UP;
+use peeriewick_tests::engine::{UP, VOTER};
 use peeriewick_tests::maps::{break_code, damage_body};
 use peeriewick_tests::random::{contradict, damage_tape, random_configuration, random_entries, random_entry};
 use peeriewick_tests::random::{random_start, random_tape};
@@ -139,6 +139,9 @@ struct Met {
     stuck: u64,
     /// Moves that turned the drawn gate for want of options.
     for_want: u64,
+    /// Moves that drew a voter and turned one of its children, or two.
+    one_of_pair: u64,
+    both_of_pair: u64,
     long: u64,
     refused: u64,
 }
@@ -155,15 +158,21 @@ impl Met {
             self.stuck += (told.numbers[0] == STUCK) as u64;
             self.long += (told.numbers[1] > 10_000) as u64;
         }
-        if call.kind == Kind::Move && told.number == 0 && call.tape[2] != UP {
-            let gate = told.numbers[0];
-            self.for_want += (left.body[gate] != call.body[gate]) as u64;
+        if call.kind == Kind::Move && told.number == 0 {
+            let (gate, turned) = (told.numbers[0], told.numbers[1]);
+            let itself = left.body[gate] != call.body[gate];
+            self.for_want += (itself && call.tape[2] != UP) as u64;
+            if call.map[12 + 4 * gate] == VOTER && !itself {
+                self.one_of_pair += (turned == 1) as u64;
+                self.both_of_pair += (turned == 2) as u64;
+            }
         }
     }
 
-    /// Whether `n` calls should have met more: each ending, moves for want of options and refusals one time in 400.
+    /// Whether `n` calls should have met more: each ending, moves for want of options, moves of either sort from voters and refusals one time in 400.
     fn bare(&self, n: usize) -> bool {
-        let least = self.found.min(self.spent).min(self.stuck).min(self.for_want).min(self.refused);
+        let pairs = self.one_of_pair.min(self.both_of_pair);
+        let least = self.found.min(self.spent).min(self.stuck).min(self.for_want).min(self.refused).min(pairs);
         self.sizes.len() != 1024 || least < n as u64 / 400 || self.long == 0
     }
 }
@@ -171,7 +180,8 @@ impl Met {
 impl fmt::Display for Met {
     fn fmt(&self, f: &mut fmt::Formatter<'_>) -> fmt::Result {
         write!(f, "{} sizes of maps, {} found, {} spent, {} stuck, ", self.sizes.len(), self.found, self.spent, self.stuck)?;
-        write!(f, "{} of over 10,000 moves, {} moves for want of options, {} refused", self.long, self.for_want, self.refused)
+        write!(f, "{} of over 10,000 moves, {} moves for want of options, ", self.long, self.for_want)?;
+        write!(f, "{} and {} that turn one and two children of a voter, {} refused", self.one_of_pair, self.both_of_pair, self.refused)
     }
 }
 

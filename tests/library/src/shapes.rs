@@ -1,7 +1,7 @@
 //! Maps of many shapes and any size, from a seed.
 
 use peeriewick_tests::dice::Dice;
-use peeriewick_tests::engine::{self, AND, INPUT, NOT, OR, XOR};
+use peeriewick_tests::engine::{self, AND, INPUT, NOT, OR, VOTER, XOR};
 use peeriewick_tests::maps::{are_children, coded_children, random_gate, random_values, Draft};
 
 #[derive(Debug, Clone, Copy, PartialEq, Eq)]
@@ -16,22 +16,25 @@ pub enum Shape {
     Flat,
     /// XORs over any gates.
     Xors,
+    /// Voters over any gates, half of them over some of the last ten.
+    Voters,
     /// AND and OR of eight, everywhere.
     Eight,
     /// Nothing but inputs.
     Inputs,
-    /// AND and OR over the same children.
+    /// AND and OR over the same children, and over three a voter.
     Twins,
     /// Every gate has one parent, but for the root.
     Tree,
 }
 
-pub const SHAPES: [Shape; 9] = [
+pub const SHAPES: [Shape; 10] = [
     Shape::Mixed,
     Shape::Chain,
     Shape::Nots,
     Shape::Flat,
     Shape::Xors,
+    Shape::Voters,
     Shape::Eight,
     Shape::Inputs,
     Shape::Twins,
@@ -65,6 +68,7 @@ fn gate_over(dice: &mut Dice, children: Vec<u16>) -> (u8, Vec<u16>) {
         0 => INPUT,
         1 => NOT,
         2 => [AND, OR, XOR][dice.below(3)],
+        3 => [AND, OR, VOTER][dice.below(3)],
         _ => [AND, OR][dice.below(2)],
     };
     (kind, children)
@@ -101,6 +105,11 @@ fn gate_at(dice: &mut Dice, shape: Shape, number: usize, size: usize) -> (u8, Ve
         Shape::Flat => of_some(dice, size * 2 / 3 + 1),
         Shape::Xors if number == 1 || number <= size / 5 => input,
         Shape::Xors => (XOR, some_children(dice, number, 2)),
+        Shape::Voters if number < 3 || number <= size / 8 => input,
+        Shape::Voters => {
+            let first = if dice.one_in(2) { number - number.min(10) } else { 0 };
+            (VOTER, some_children(dice, number - first, 3).into_iter().map(|child| child + first as u16).collect())
+        }
         Shape::Eight if number < 8 || dice.one_in(30) => input,
         Shape::Eight => ([AND, OR][dice.below(2)], some_children(dice, number, 8)),
         Shape::Inputs => input,
@@ -108,16 +117,17 @@ fn gate_at(dice: &mut Dice, shape: Shape, number: usize, size: usize) -> (u8, Ve
     }
 }
 
-/// Groups of inputs with an AND and an OR, or a gate of each sort, over the same two to eight of them.
+/// Groups of inputs with an AND and an OR, and with a voter where there are three, over the same two to eight of them.
 fn twins(dice: &mut Dice, size: usize) -> Vec<(u8, Vec<u16>)> {
     let mut gates: Vec<(u8, Vec<u16>)> = vec![];
     while gates.len() < size {
         let first = gates.len();
-        let count = (2 + dice.below(7)).min(size - first);
+        let wanted = if dice.one_in(3) { 3 } else { 2 + dice.below(7) };
+        let count = wanted.min(size - first);
         gates.extend((0..count).map(|_| (INPUT, vec![])));
         let children: Vec<u16> = (first as u16..(first + count) as u16).collect();
-        for kind in [AND, OR] {
-            if gates.len() < size && count >= 2 {
+        for kind in [AND, OR, VOTER] {
+            if gates.len() < size && count >= 2 && (kind != VOTER || count == 3) {
                 gates.push((kind, children.clone()));
             }
         }

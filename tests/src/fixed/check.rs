@@ -138,9 +138,9 @@ fn wrong_lengths(l: &mut List) {
 /// Number 4.
 fn kinds(l: &mut List) {
     let adder = adder();
-    l.check("gives 4, kind 5 of the only gate", &raw(&[(5, 0, 0)], &[], &[]), "REFUSED 4");
-    l.check("gives 4, kind 5 with fan-in 2", &with(&adder, 24, 5), "REFUSED 4");
-    l.check("gives 4, kind 5 of the last gate", &with(&adder, 40, 5), "REFUSED 4");
+    l.check("gives 4, kind 6 of the only gate", &raw(&[(6, 0, 0)], &[], &[]), "REFUSED 4");
+    l.check("gives 4, kind 6 with fan-in 2", &with(&adder, 24, 6), "REFUSED 4");
+    l.check("gives 4, kind 6 of the last gate", &with(&adder, 40, 6), "REFUSED 4");
     l.check("gives 4, kind 255", &with(&adder, 40, 255), "REFUSED 4");
     l.check("gives 4, kind 128 of an input", &with(&adder, 12, 128), "REFUSED 4");
     l.check("gives 4, fan-in 9 for AND", &over(9, AND), "REFUSED 4");
@@ -181,7 +181,6 @@ fn positions(l: &mut List) {
         &raw(&[(0, 0, 0), (1, 1, 1), (1, 1, 0)], &[0, 0], &[]),
         "REFUSED 5",
     );
-    l.check("gives 5, 32,758 children in a map of 65,532 bytes", &raw(&[(0, 0, 0)], &[0; 32758], &[]), "REFUSED 5");
 }
 
 /// Number 6.
@@ -252,12 +251,12 @@ pub(super) fn precedence(l: &mut List) {
     l.check("gives 2, before 3: 0 gates and wrong offsets", &with16(&adder, 2, 0), "REFUSED 2");
     l.check("gives 2, before 3: 1,025 gates in the adder", &with16(&adder, 2, 1025), "REFUSED 2");
     l.check("gives 2, before 3: 1,025 gates and first offset 0", &with(&inputs(1025, &[])[..200], 0, 0), "REFUSED 2");
-    l.check("gives 3, before 4: kind 5 and a byte too many", &[&with(&adder, 12, 5)[..], &[0]].concat(), "REFUSED 3");
-    l.check("gives 3, before 4: kind 5 and first offset 13", &with(&with(&adder, 12, 5), 0, 13), "REFUSED 3");
+    l.check("gives 3, before 4: kind 6 and a byte too many", &[&with(&adder, 12, 6)[..], &[0]].concat(), "REFUSED 3");
+    l.check("gives 3, before 4: kind 6 and first offset 13", &with(&with(&adder, 12, 6), 0, 13), "REFUSED 3");
     l.check("gives 3, before 7: value 2 and a byte too few", &with(&adder, 66, 2)[..67], "REFUSED 3");
-    l.check("gives 4, before 5: kind 5 at the last gate, position wrong at gate 0", &with(&with(&adder, 40, 5), 14, 1), "REFUSED 4");
+    l.check("gives 4, before 5: kind 6 at the last gate, position wrong at gate 0", &with(&with(&adder, 40, 6), 14, 1), "REFUSED 4");
     l.check("gives 4, before 5: fan-in 9 at the last gate makes the count wrong", &with(&adder, 41, 9), "REFUSED 4");
-    l.check("gives 4, before 6: kind 5 at the last gate, equal children at gate 3", &with(&with(&adder, 40, 5), 46, 0), "REFUSED 4");
+    l.check("gives 4, before 6: kind 6 at the last gate, equal children at gate 3", &with(&with(&adder, 40, 6), 46, 0), "REFUSED 4");
     l.check("gives 5, before 6: position wrong at the last gate, equal children at gate 3", &with(&with(&adder, 42, 7), 46, 0), "REFUSED 5");
     l.check("gives 5, before 6: child count wrong, child equal to its gate", &raw(&[(0, 0, 0), (1, 1, 0)], &[1, 0], &[]), "REFUSED 5");
     l.check("gives 5, before 7: position wrong at the last gate, value 2", &with(&with(&adder, 42, 7), 66, 2), "REFUSED 5");
@@ -308,7 +307,7 @@ pub(super) fn children(l: &mut List) {
     l.children("of a map refused with 1", &adder[..11], 3, "CHILDREN");
     l.children("of a map refused with 2", &with16(&adder, 2, 0), 3, "CHILDREN");
     l.children("of a map refused with 3", &adder[..67], 3, "CHILDREN");
-    l.children("of a map refused with 4", &with(&adder, 40, 5), 3, "CHILDREN");
+    l.children("of a map refused with 4", &with(&adder, 40, 6), 3, "CHILDREN");
     l.children("of a map refused with 5", &with(&adder, 42, 7), 3, "CHILDREN");
     l.children("of a map refused with 6", &with(&adder, 62, 7), 3, "CHILDREN");
     l.children("of a map refused with 7", &with(&adder, 66, 2), 3, "CHILDREN");

@@ -1,6 +1,6 @@
 //! The maps of the fixed cases.
 
-use crate::engine::{AND, INPUT, NOT, OR, XOR};
+use crate::engine::{AND, INPUT, NOT, OR, VOTER, XOR};
 use crate::maps::{build, push16};
 
 pub(super) fn map(gates: &[(u8, &[u16])], codes: &[(u16, u8)]) -> Vec<u8> {
@@ -307,5 +307,95 @@ pub(super) fn tie() -> Vec<u8> {
     map(
         &[(INPUT, &[]), (INPUT, &[]), (AND, &[0, 1]), (INPUT, &[]), (OR, &[0, 2, 3])],
         &[(4, 1)],
+    )
+}
+
+/// `n` inputs and a gate over all of them.
+pub(super) fn alone(kind: u8, n: u16, codes: &[(u16, u8)]) -> Vec<u8> {
+    build(&[vec![(INPUT, vec![]); n as usize], vec![(kind, (0..n).collect())]].concat(), codes)
+}
+
+/// `n` inputs, a gate over all of them, and a NOT of that one.
+pub(super) fn below_a_not(kind: u8, n: u16, codes: &[(u16, u8)]) -> Vec<u8> {
+    build(&[vec![(INPUT, vec![]); n as usize], vec![(kind, (0..n).collect()), (NOT, vec![n])]].concat(), codes)
+}
+
+/// 0 to 2 inputs, 3 VOTER(0,1,2), 4 NOT(3), 5 VOTER(0,3,4), 6 XOR(3,5),
+/// 7 AND(4,5,6), 8 OR(6,7). As 4 is not 3, 5 is what 0 is.
+pub(super) fn every_kind(codes: &[(u16, u8)]) -> Vec<u8> {
+    map(
+        &[
+            (INPUT, &[]),
+            (INPUT, &[]),
+            (INPUT, &[]),
+            (VOTER, &[0, 1, 2]),
+            (NOT, &[3]),
+            (VOTER, &[0, 3, 4]),
+            (XOR, &[3, 5]),
+            (AND, &[4, 5, 6]),
+            (OR, &[6, 7]),
+        ],
+        codes,
+    )
+}
+
+/// Voters over inputs that stand after other gates: 0 input, 1 NOT(0), 2 input,
+/// 3 VOTER(0,1,2), 4 input, 5 VOTER(1,3,4).
+pub(super) fn mixed_voters() -> Vec<u8> {
+    map(
+        &[
+            (INPUT, &[]),
+            (NOT, &[0]),
+            (INPUT, &[]),
+            (VOTER, &[0, 1, 2]),
+            (INPUT, &[]),
+            (VOTER, &[1, 3, 4]),
+        ],
+        &[],
+    )
+}
+
+/// 0 to 4 inputs, 5 VOTER(0,1,2), 6 VOTER(2,3,4), 7 VOTER(0,5,6), coded `value`.
+pub(super) fn voter_of_voters(value: u8) -> Vec<u8> {
+    let mut gates = vec![(INPUT, vec![]); 5];
+    gates.extend([(VOTER, vec![0, 1, 2]), (VOTER, vec![2, 3, 4]), (VOTER, vec![0, 5, 6])]);
+    build(&gates, &[(7, value)])
+}
+
+/// Three inputs and voters, each over the three gates before it, `n` gates in all;
+/// the last is coded 1.
+pub(super) fn chain_of_voters(n: u16) -> Vec<u8> {
+    let mut gates = vec![(INPUT, vec![]); 3];
+    gates.extend((3..n).map(|gate| (VOTER, vec![gate - 3, gate - 2, gate - 1])));
+    build(&gates, &[(n - 1, 1)])
+}
+
+/// 0 to 2 inputs, 3 VOTER(0,1,2) and 4 another gate over some of these inputs.
+pub(super) fn beside_a_voter(kind: u8, children: &[u16], codes: &[(u16, u8)]) -> Vec<u8> {
+    map(&[(INPUT, &[]), (INPUT, &[]), (INPUT, &[]), (VOTER, &[0, 1, 2]), (kind, children)], codes)
+}
+
+/// 0 to 2 inputs, 3 AND(0,1,2), 4 NOT(0), 5 XOR(0,1), 6 VOTER(3,4,5), code 6 = 1.
+pub(super) fn costly_voter() -> Vec<u8> {
+    map(
+        &[
+            (INPUT, &[]),
+            (INPUT, &[]),
+            (INPUT, &[]),
+            (AND, &[0, 1, 2]),
+            (NOT, &[0]),
+            (XOR, &[0, 1]),
+            (VOTER, &[3, 4, 5]),
+        ],
+        &[(6, 1)],
+    )
+}
+
+/// The full adder with a voter for its carry: 0 to 2 inputs, 3 XOR(0,1), 4 XOR(2,3),
+/// the sum, and 5 VOTER(0,1,2), the carry; codes 4 = 0 and 5 = 1.
+pub(super) fn voting_adder() -> Vec<u8> {
+    map(
+        &[(INPUT, &[]), (INPUT, &[]), (INPUT, &[]), (XOR, &[0, 1]), (XOR, &[2, 3]), (VOTER, &[0, 1, 2])],
+        &[(4, 0), (5, 1)],
     )
 }

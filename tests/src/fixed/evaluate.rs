@@ -100,7 +100,7 @@ fn refused(l: &mut List) {
     l.evaluate("gives 2, 1,025 gates", &with16(&adder, 2, 1025), &row, 8, &declined(2, 8));
     l.evaluate("gives 3, one byte too long", &[&adder[..], &[0]].concat(), &row, 8, &declined(3, 8));
     l.evaluate("gives 3, wrapped third offset", &[header([12, 1, 16, 32768, 16, 0]), vec![0; 4]].concat(), &[1], 4, &declined(3, 4));
-    l.evaluate("gives 4, kind 5 at the last gate", &with(&adder, 40, 5), &row, 8, &declined(4, 8));
+    l.evaluate("gives 4, kind 6 at the last gate", &with(&adder, 40, 6), &row, 8, &declined(4, 8));
     l.evaluate("gives 4, fan-in 9", &over(9, OR), &[1; 9], 10, &declined(4, 10));
     l.evaluate("gives 5, position wrong at the last gate", &with(&adder, 42, 7), &row, 8, &declined(5, 8));
     l.evaluate("gives 6, child equal to its gate", &with(&adder, 62, 7), &row, 8, &declined(6, 8));

@@ -76,11 +76,6 @@ fn smallest(l: &mut List) {
     }
 }
 
-/// `n` inputs and a gate over all of them.
-fn alone(kind: u8, n: u16, codes: &[(u16, u8)]) -> Vec<u8> {
-    build(&[vec![(INPUT, vec![]); n as usize], vec![(kind, (0..n).collect())]].concat(), codes)
-}
-
 /// The gate is coded, and each of its options turns a coded child.
 fn coded_gates_stuck(l: &mut List) {
     let list: [(&str, u8, &[(u16, u8)], &str, &str); 15] = [
@@ -112,11 +107,6 @@ fn coded_gates_stuck(l: &mut List) {
         let name = format!("coded OR of 8 at 1, all children coded, down {option}");
         l.unturned(&name, &alone(OR, 8, &codes), "00000000 1", down(option), 8, "55555555 7");
     }
-}
-
-/// `n` inputs, a gate over all of them, and a NOT of that one.
-fn below_a_not(kind: u8, n: u16, codes: &[(u16, u8)]) -> Vec<u8> {
-    build(&[vec![(INPUT, vec![]); n as usize], vec![(kind, (0..n).collect()), (NOT, vec![n])]].concat(), codes)
 }
 
 /// The same on uncoded gates, which a coded NOT holds in the cone: the gate

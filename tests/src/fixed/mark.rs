@@ -90,7 +90,7 @@ fn refused(l: &mut List) {
     l.mark("gives 2, 0 gates", &header([12, 0, 12, 0, 12, 0]), &[], "REFUSED 2");
     l.mark("gives 2, 1,025 gates", &with16(&adder, 2, 1025), &key, "REFUSED 2");
     l.mark("gives 3, one byte too long", &[&adder[..], &[0]].concat(), &key, "REFUSED 3");
-    l.mark("gives 4, kind 5 at the last gate", &with(&adder, 40, 5), &key, "REFUSED 4");
+    l.mark("gives 4, kind 6 at the last gate", &with(&adder, 40, 6), &key, "REFUSED 4");
     l.mark("gives 5, position wrong at the last gate", &with(&adder, 42, 7), &key, "REFUSED 5");
     l.mark("gives 6, child equal to its gate", &with(&adder, 62, 7), &key, "REFUSED 6");
     l.mark("gives 7, value 2", &with(&adder, 66, 2), &key, "REFUSED 7");

@@ -166,7 +166,7 @@ fn map_or_configuration(l: &mut List) {
     l.not_printed("gives 2, 1,025 gates", 2, &with16(&adder, 2, 1025), &a, tape);
     l.not_printed("gives 3, one byte too long", 3, &[&adder[..], &[0]].concat(), &a, tape);
     l.not_printed("gives 3, one byte cut off", 3, &adder[..67], &a, tape);
-    l.not_printed("gives 4, kind 5 at the last gate", 4, &with(&adder, 40, 5), &a, tape);
+    l.not_printed("gives 4, kind 6 at the last gate", 4, &with(&adder, 40, 6), &a, tape);
     l.not_printed("gives 4, fan-in 9", 4, &over(9, AND), &[1; 10], tape);
     l.not_printed("gives 5, position wrong at the last gate", 5, &with(&adder, 42, 7), &a, tape);
     l.not_printed("gives 6, child equal to its gate", 6, &with(&adder, 62, 7), &a, tape);

@@ -39,7 +39,7 @@ fn refused_maps(l: &mut List) {
     ] {
         l.check(&format!("gives 4, {name}"), &with(map, at, fan_in), "REFUSED 4");
     }
-    l.check("gives 4, before 5: kind 5 at the last gate, position wrong at gate 3", &with(&with(&adder, 40, 5), 26, 1), "REFUSED 4");
+    l.check("gives 4, before 5: kind 6 at the last gate, position wrong at gate 3", &with(&with(&adder, 40, 6), 26, 1), "REFUSED 4");
     l.check("gives 5, fan-in 3 for the OR of the adder makes the total wrong", &with(&adder, 41, 3), "REFUSED 5");
     l.check("gives 5, an input behind a NOT with position 0", &with(&gap, 22, 0), "REFUSED 5");
     l.check("gives 5, before 6: last position one high, equal children at gate 3", &with(&with(&adder, 42, 9), 46, 0), "REFUSED 5");

@@ -23,7 +23,7 @@ fn map_or_configuration(l: &mut List) {
     l.not_run("gives 2, 1,025 gates", 2, &with16(&adder, 2, 1025), &a, tape, eight);
     l.not_run("gives 3, one byte too long", 3, &[&adder[..], &[0]].concat(), &a, tape, eight);
     l.not_run("gives 3, one byte cut off", 3, &adder[..67], &a, tape, eight);
-    l.not_run("gives 4, kind 5 at the last gate", 4, &with(&adder, 40, 5), &a, tape, eight);
+    l.not_run("gives 4, kind 6 at the last gate", 4, &with(&adder, 40, 6), &a, tape, eight);
     l.not_run("gives 4, fan-in 9", 4, &over(9, OR), &[1; 10], tape, (10, 10));
     l.not_run("gives 5, position wrong at the last gate", 5, &with(&adder, 42, 7), &a, tape, eight);
     l.not_run("gives 6, child equal to its gate", 6, &with(&adder, 62, 7), &a, tape, eight);
@@ -90,8 +90,8 @@ fn map_or_configuration_first(l: &mut List) {
     l.not_run("gives 1, before 2: 11 zeros", 1, &[0; 11], &a, tape, eight);
     l.not_run("gives 2, before 3: 1,025 gates and a byte too many", 2, &[&with16(&adder, 2, 1025)[..], &[0]].concat(), &a, tape, eight);
     l.not_run("gives 2, before 9 to 14: 0 gates and all else wrong", 2, &none, &[2], odd, (0, 0));
-    l.not_run("gives 3, before 4: kind 5 and a byte too many", 3, &[&with(&adder, 12, 5)[..], &[0]].concat(), &a, tape, eight);
-    l.not_run("gives 4, before 5: kind 5 at the last gate, position wrong at gate 0", 4, &with(&with(&adder, 40, 5), 14, 1), &a, tape, eight);
+    l.not_run("gives 3, before 4: kind 6 and a byte too many", 3, &[&with(&adder, 12, 6)[..], &[0]].concat(), &a, tape, eight);
+    l.not_run("gives 4, before 5: kind 6 at the last gate, position wrong at gate 0", 4, &with(&with(&adder, 40, 6), 14, 1), &a, tape, eight);
     l.not_run("gives 5, before 6: position wrong at the last gate, equal children at gate 3", 5, &with(&with(&adder, 42, 7), 46, 0), &a, tape, eight);
     l.not_run("gives 6, before 7: equal children at the last gate, value 2", 6, &with(&with(&adder, 62, 4), 66, 2), &a, tape, eight);
     l.not_run("gives 7, coded child first, value 2 in the last code", 7, &map(&ADDER, &[(3, 1), (7, 2)]), &a, tape, eight);

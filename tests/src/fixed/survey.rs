@@ -306,7 +306,7 @@ pub(super) fn refused(l: &mut List) {
     l.survey("gives 2, 1,025 gates", &with16(&adder, 2, 1025), &a, 8, &declined(2, 8));
     l.survey("gives 3, one byte too long", &[&adder[..], &[0]].concat(), &a, 8, &declined(3, 8));
     l.survey("gives 3, one byte cut off", &adder[..67], &a, 8, &declined(3, 8));
-    l.survey("gives 4, kind 5 at the last gate", &with(&adder, 40, 5), &a, 8, &declined(4, 8));
+    l.survey("gives 4, kind 6 at the last gate", &with(&adder, 40, 6), &a, 8, &declined(4, 8));
     l.survey("gives 5, position wrong at the last gate", &with(&adder, 42, 7), &a, 8, &declined(5, 8));
     l.survey("gives 6, child equal to its gate", &with(&adder, 62, 7), &a, 8, &declined(6, 8));
     l.survey("gives 7, zero byte 1", &with(&adder, 67, 1), &a, 8, &declined(7, 8));
@@ -345,8 +345,8 @@ pub(super) fn precedence(l: &mut List) {
     l.survey("gives 1, before 2: 11 zeros", &[0; 11], &a, 8, &declined(1, 8));
     l.survey("gives 2, before 3: 1,025 gates and a byte too many", &[&with16(&adder, 2, 1025)[..], &[0]].concat(), &a, 8, &declined(2, 8));
     l.survey("gives 2, before 14: 0 gates and no memory", &none, &[2], 0, &declined(2, 0));
-    l.survey("gives 3, before 4: kind 5 and a byte too many", &[&with(&adder, 12, 5)[..], &[0]].concat(), &a, 8, &declined(3, 8));
-    l.survey("gives 4, before 5: kind 5 at the last gate, position wrong at gate 0", &with(&with(&adder, 40, 5), 14, 1), &a, 8, &declined(4, 8));
+    l.survey("gives 3, before 4: kind 6 and a byte too many", &[&with(&adder, 12, 6)[..], &[0]].concat(), &a, 8, &declined(3, 8));
+    l.survey("gives 4, before 5: kind 6 at the last gate, position wrong at gate 0", &with(&with(&adder, 40, 6), 14, 1), &a, 8, &declined(4, 8));
     l.survey("gives 5, before 6: position wrong at the last gate, equal children at gate 3", &with(&with(&adder, 42, 7), 46, 0), &a, 8, &declined(5, 8));
     l.survey("gives 6, before 7: equal children at the last gate, value 2", &with(&with(&adder, 62, 4), 66, 2), &a, 8, &declined(6, 8));
     l.survey("gives 7, coded child first, value 2 in the last code", &map(&ADDER, &[(3, 1), (7, 2)]), &a, 8, &declined(7, 8));
