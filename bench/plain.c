@@ -6,7 +6,7 @@
 
 enum { MAX_GATES = 1024, MAX_FAN_IN = 8, MAX_TAPE = 65532 };
 enum { CONTENTS_SIZE = 12, GATE_SIZE = 4, CHILD_SIZE = 2, CODE_SIZE = 4, ENTRY_SIZE = 4 };
-enum { INPUT, NOT, AND, OR, XOR };
+enum { INPUT, NOT, AND, OR, XOR, VOTER };
 enum { GREEDY, DOWN, UP };
 enum { CONE = 1, FRONT = 2, INTEREST = 4 };
 enum ending { SPENT, FOUND, STUCK };
@@ -80,9 +80,9 @@ static void flag_codes(const struct map *map, uint8_t *coded)
 
 static inline bool fan_in_allowed(unsigned kind, size_t fan_in)
 {
-    static const uint8_t least[] = { [INPUT] = 0, [NOT] = 1, [AND] = 2, [OR] = 2, [XOR] = 2 };
-    static const uint8_t most[] = { [INPUT] = 0, [NOT] = 1, [AND] = 8, [OR] = 8, [XOR] = 2 };
-    return kind <= XOR && fan_in >= least[kind] && fan_in <= most[kind];
+    static const uint8_t least[] = { [INPUT] = 0, [NOT] = 1, [AND] = 2, [OR] = 2, [XOR] = 2, [VOTER] = 3 };
+    static const uint8_t most[] = { [INPUT] = 0, [NOT] = 1, [AND] = 8, [OR] = 8, [XOR] = 2, [VOTER] = 3 };
+    return kind <= VOTER && fan_in >= least[kind] && fan_in <= most[kind];
 }
 
 static bool kinds_hold(const struct map *map)
@@ -228,7 +228,8 @@ static inline bool some_child_is(const uint8_t *children, size_t fan_in, const u
     return false;
 }
 
-/* The value that the children of a gate give it. An input keeps its own. */
+/* The value that the children of a gate give it. An input keeps its own. A voter is no case of the switch: with a fifth, gcc makes a table of jumps, which costs
+ * maps without voters more. */
 static inline uint8_t given_value(const struct map *map, size_t gate, const uint8_t *values)
 {
     const uint8_t *children = children_of(map, gate);
@@ -243,6 +244,8 @@ static inline uint8_t given_value(const struct map *map, size_t gate, const uint
     case XOR:
         return values[child_at(children, 0)] ^ values[child_at(children, 1)];
     default:
+        if (kind_of(map, gate) == VOTER)
+            return values[child_at(children, 0)] + values[child_at(children, 1)] + values[child_at(children, 2)] >= 2;
         return values[gate];
     }
 }
@@ -256,10 +259,19 @@ static void evaluate_gates(const struct map *map, uint8_t *values)
 
 /* ---- Cone, front and interest set ---- */
 
-/* AND at 0 and OR at 1: one child with the gate's value is enough. */
-static inline bool one_child_is_enough(unsigned kind, uint8_t value)
+/* AND at 0, OR at 1 and a voter: the children with the gate's value justify it, and the others have no part in that. */
+static inline bool only_equal_justify(unsigned kind, uint8_t value)
 {
-    return (kind == AND && value == 0) || (kind == OR && value == 1);
+    switch (kind) {
+    case AND:
+        return value == 0;
+    case OR:
+        return value == 1;
+    case VOTER:
+        return true;
+    default:
+        return false;
+    }
 }
 
 /* Puts the children that justify this justified gate into the cone. */
@@ -267,7 +279,7 @@ static void extend_cone(const struct map *map, size_t gate, const uint8_t *value
 {
     const uint8_t *children = children_of(map, gate);
     size_t fan_in = fan_in_of(map, gate);
-    bool only_equal = one_child_is_enough(kind_of(map, gate), values[gate]);
+    bool only_equal = only_equal_justify(kind_of(map, gate), values[gate]);
     for (size_t i = 0; i < fan_in; i++) {
         size_t child = child_at(children, i);
         if (!only_equal || values[child] == values[gate])
@@ -329,18 +341,36 @@ static inline bool all_children_must_agree(unsigned kind, uint8_t value)
     return (kind == AND && value == 1) || (kind == OR && value == 0);
 }
 
+/* The children of a voter that each of its options sets, in the order of the options. */
+enum { VOTER_OPTIONS = 3 };
+static const uint8_t voter_pairs[VOTER_OPTIONS][2] = { { 0, 1 }, { 0, 2 }, { 1, 2 } };
+
+/* A coded child that has the gate's value is not turned, and so keeps no option from being left. */
+static inline bool is_wrong_and_coded(size_t child, const uint8_t *coded, const uint8_t *values, uint8_t value)
+{
+    return coded[child] && values[child] != value;
+}
+
 static bool some_wrong_child_is_coded(const uint8_t *children, size_t fan_in, const uint8_t *coded, const uint8_t *values, uint8_t value)
 {
-    for (size_t i = 0; i < fan_in; i++) {
-        size_t child = child_at(children, i);
-        if (coded[child] && values[child] != value)
+    for (size_t i = 0; i < fan_in; i++)
+        if (is_wrong_and_coded(child_at(children, i), coded, values, value))
             return true;
-    }
     return false;
 }
 
-/* The down options of a front gate that turn no coded gate: writes their places among its children, and returns how many there are. The single option of
- * an AND at 1 or an OR at 0 has place 0; one coded child among those that it would turn puts it out. */
+static size_t pairs_left(const uint8_t *children, const uint8_t *coded, const uint8_t *values, uint8_t value, uint8_t *left)
+{
+    size_t count = 0;
+    for (size_t i = 0; i < VOTER_OPTIONS; i++)
+        if (!is_wrong_and_coded(child_at(children, voter_pairs[i][0]), coded, values, value)
+            && !is_wrong_and_coded(child_at(children, voter_pairs[i][1]), coded, values, value))
+            left[count++] = (uint8_t)i;
+    return count;
+}
+
+/* The down options of a front gate that turn no coded gate: writes their places, and returns how many there are. The single option of an AND at 1 or an OR
+ * at 0 has place 0; one coded child among those that it would turn puts it out. A voter's have those of its pairs, and the others that of the child turned. */
 static size_t options_left(const struct map *map, size_t gate, const uint8_t *coded, const uint8_t *values, uint8_t *left)
 {
     const uint8_t *children = children_of(map, gate);
@@ -350,10 +380,20 @@ static size_t options_left(const struct map *map, size_t gate, const uint8_t *co
         left[0] = 0;
         return !some_wrong_child_is_coded(children, fan_in, coded, values, values[gate]);
     }
+    if (kind_of(map, gate) == VOTER)
+        return pairs_left(children, coded, values, values[gate], left);
     for (size_t i = 0; i < fan_in; i++)
         if (!coded[child_at(children, i)])
             left[count++] = (uint8_t)i;
     return count;
+}
+
+/* Gives a child this value. Returns 1 where that turns it, else 0. */
+static inline size_t set_child(size_t child, uint8_t value, uint8_t *values)
+{
+    size_t turned = values[child] != value;
+    values[child] = value;
+    return turned;
 }
 
 /* AND at 1 and OR at 0: turns the wrong children, and returns how many. */
@@ -362,12 +402,16 @@ static size_t turn_wrong_children(const struct map *map, size_t gate, uint8_t *v
     const uint8_t *children = children_of(map, gate);
     size_t fan_in = fan_in_of(map, gate);
     size_t turned = 0;
-    for (size_t i = 0; i < fan_in; i++) {
-        size_t child = child_at(children, i);
-        turned += values[child] != values[gate];
-        values[child] = values[gate];
-    }
+    for (size_t i = 0; i < fan_in; i++)
+        turned += set_child(child_at(children, i), values[gate], values);
     return turned;
+}
+
+/* A voter: turns the wrong ones of a pair of its children, and returns how many: 1 or 2, as at most one child of a front gate is right. */
+static size_t turn_pair(const struct map *map, size_t gate, const uint8_t *pair, uint8_t *values)
+{
+    const uint8_t *children = children_of(map, gate);
+    return set_child(child_at(children, pair[0]), values[gate], values) + set_child(child_at(children, pair[1]), values[gate], values);
 }
 
 /* Does a down option of a front gate. Returns how many values it turned. */
@@ -375,6 +419,8 @@ static size_t turn_option(const struct map *map, size_t gate, size_t option, uin
 {
     if (all_children_must_agree(kind_of(map, gate), values[gate]))
         return turn_wrong_children(map, gate, values);
+    if (kind_of(map, gate) == VOTER)
+        return turn_pair(map, gate, voter_pairs[option], values);
     values[child_at(children_of(map, gate), option)] ^= 1;
     return 1;
 }

@@ -38,7 +38,8 @@ enum {
     PEERIEWICK_KIND_NOT = 1,
     PEERIEWICK_KIND_AND = 2,
     PEERIEWICK_KIND_OR = 3,
-    PEERIEWICK_KIND_XOR = 4
+    PEERIEWICK_KIND_XOR = 4,
+    PEERIEWICK_KIND_VOTER = 5 /* 1 where at least two of its three children are */
 };
 
 /* The kind of a tape entry: its third byte. */
@@ -61,7 +62,7 @@ enum {
     PEERIEWICK_REFUSED_CONTENTS = 1,    /* the map is shorter than 12 bytes */
     PEERIEWICK_REFUSED_GATES = 2,       /* it has no gate or more than 1,024 */
     PEERIEWICK_REFUSED_OFFSETS = 3,     /* an offset or the length isn't what the counts give */
-    PEERIEWICK_REFUSED_KINDS = 4,       /* a kind is above 4 or a fan-in isn't allowed for its kind */
+    PEERIEWICK_REFUSED_KINDS = 4,       /* a kind is above 5 or a fan-in isn't allowed for its kind */
     PEERIEWICK_REFUSED_POSITIONS = 5,   /* a first child position or the child count is wrong */
     PEERIEWICK_REFUSED_CHILDREN = 6,    /* a child isn't below its gate or doesn't ascend */
     PEERIEWICK_REFUSED_CODES = 7,       /* a code's gate is past the last or doesn't ascend, or its value or zero byte is wrong */

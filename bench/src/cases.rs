@@ -1,6 +1,6 @@
 //! Random cases for the comparison: small and large maps, most of them accepted, some with a little damage to the map or to what else is lent.
 
-use crate::circuit::{Circuit, Gate};
+use crate::circuit::{Circuit, Gate, VOTER};
 use crate::lent::{Buffer, Lent};
 use crate::random::Random;
 
@@ -47,11 +47,12 @@ fn random_size(random: &mut Random) -> usize {
 
 fn random_circuit(random: &mut Random, size: usize) -> Circuit {
     let (input_rate, hidden_rate) = (1 + random.below(6), 1 + random.below(12));
+    let voter_rate = [0, 1, 2, 6][random.below(4)];
     let mut usable: Vec<u16> = Vec::new();
     let mut gates = Vec::new();
     for number in 0..size as u16 {
         let input = usable.is_empty() || random.once_in(input_rate);
-        gates.push(if input { Gate::input() } else { Gate::random(random, &usable, Random::below) });
+        gates.push(if input { Gate::input() } else { random_gate(random, voter_rate, &usable) });
         if !random.once_in(hidden_rate + 1) {
             usable.push(number);
         }
@@ -59,6 +60,14 @@ fn random_circuit(random: &mut Random, size: usize) -> Circuit {
     let mut circuit = Circuit { gates, codes: Vec::new() };
     circuit.codes = random_codes(random, &circuit);
     circuit
+}
+
+/// A voter once in `voter_rate` where three gates are below, but never if that is 0.
+fn random_gate(random: &mut Random, voter_rate: usize, below: &[u16]) -> Gate {
+    if voter_rate > 0 && below.len() >= 3 && random.once_in(voter_rate) {
+        return Gate::over(random, VOTER, 3, below, Random::below);
+    }
+    Gate::random(random, below, Random::below)
 }
 
 /// Codes on most gates that have no parent, and on none, some or most of the others. Some state shows them, or all but a few, or they are arbitrary.

@@ -1,6 +1,7 @@
 //! The measurement as a chart: how the ratios lie by size and by family, and the time per move by size.
 
 use crate::engine::ENGINES;
+use crate::families::WITHOUT_VOTERS;
 use crate::inputs::{Tape, SIZES, TAPES};
 use crate::ratios::Ratios;
 use crate::rows::{by_family, by_size, median_time, Row, Spread, Work};
@@ -11,7 +12,10 @@ const WIDTH: f64 = 960.0;
 const COLOURS: [&str; 2] = ["#b45309", "#0b6e99"];
 
 pub fn chart(rows: &[Row], about: &[String]) -> String {
-    let panels = [("By size, over all families and seeds", by_size(rows)), ("By family, over all sizes and seeds", by_family(rows))];
+    let panels = [
+        ("By size, over all seeds and all families but voters", by_size(rows, &WITHOUT_VOTERS)),
+        ("By family, over all sizes and seeds", by_family(rows)),
+    ];
     let ratios = Ratios::new(panels.iter().flat_map(|(_, summaries)| summaries));
     let mut svg = Svg::new(WIDTH);
     svg.bold(MARGIN, 38.0, Anchor::Start, 20, "Peeriewick beside a plain engine in C");
@@ -29,7 +33,7 @@ pub fn chart(rows: &[Row], about: &[String]) -> String {
     svg.finish(moves.bottom + 56.0)
 }
 
-/// Medians of the time per move. Both axes are logarithmic.
+/// Medians of the time per move, without voters. Both axes are logarithmic.
 struct Moves {
     least: f64,
     most: f64,
@@ -45,7 +49,7 @@ impl Moves {
 
     /// The axis of times ends at the marks next to the least and the most.
     fn new(rows: &[Row], top: f64) -> Moves {
-        let of_work = |work| SIZES.map(|gates| [0, 1].map(|which| median_time(rows, work, gates, which)));
+        let of_work = |work| SIZES.map(|gates| [0, 1].map(|which| median_time(rows, &WITHOUT_VOTERS, work, gates, which)));
         let Spread { least, most, .. } = Spread::of(TAPES.map(Work::Run).map(of_work).into_iter().flatten().flatten());
         let below = ticks().filter(|&tick| tick <= least).fold(1.0, f64::max);
         let above = ticks().filter(|&tick| tick >= most).fold(1e9, f64::min);
@@ -62,11 +66,12 @@ impl Moves {
     }
 
     fn draw(&self, svg: &mut Svg, rows: &[Row]) {
-        svg.bold(MARGIN, self.top - 22.0, Anchor::Start, 15, "Time per move of a run, median over all families and seeds (both axes logarithmic)");
+        let title = "Time per move of a run, median over all seeds and all families but voters (both axes logarithmic)";
+        svg.bold(MARGIN, self.top - 22.0, Anchor::Start, 15, title);
         self.draw_axes(svg);
         for (place, tape) in TAPES.into_iter().enumerate() {
             for (which, engine) in ENGINES.iter().enumerate() {
-                let point = |gates| (Self::x(gates), self.y(median_time(rows, Work::Run(tape), gates, which)));
+                let point = |gates| (Self::x(gates), self.y(median_time(rows, &WITHOUT_VOTERS, Work::Run(tape), gates, which)));
                 draw_series(svg, &SIZES.map(point), COLOURS[which], tape);
                 let (x, y) = (Self::LEGEND, self.top + 20.0 + 26.0 * (2 * place + which) as f64);
                 draw_series(svg, &[(x, y), (x + 34.0, y)], COLOURS[which], tape);

@@ -7,6 +7,7 @@ pub const NOT: u8 = 1;
 pub const AND: u8 = 2;
 pub const OR: u8 = 3;
 pub const XOR: u8 = 4;
+pub const VOTER: u8 = 5;
 
 pub struct Gate {
     pub kind: u8,
@@ -18,7 +19,8 @@ impl Gate {
         Gate { kind: INPUT, children: Vec::new() }
     }
 
-    /// A gate over some of the given gates, in rising order. `pick` gives a place in them. There must be at least one.
+    /// A gate over some of the given gates, in rising order. `pick` gives a place in them. There must be at least one. It is no voter: maps that are drawn
+    /// of such gates stay what they were before there were voters.
     pub fn random(random: &mut Random, below: &[u16], pick: impl Fn(&mut Random, usize) -> usize) -> Gate {
         let kind = match random.below(20) {
             _ if below.len() == 1 => NOT,
@@ -54,6 +56,7 @@ impl Gate {
             NOT => 1 - values[self.children[0] as usize],
             AND => u8::from(children.all(|value| value == 1)),
             OR => u8::from(children.any(|value| value == 1)),
+            VOTER => u8::from(children.sum::<u8>() >= 2),
             _ => children.fold(0, |parity, value| parity ^ value),
         }
     }

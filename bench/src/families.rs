@@ -1,6 +1,6 @@
 //! Families of maps that differ in the kinds of their gates, in fan-in and in depth.
 
-use crate::circuit::{Circuit, Gate, AND, INPUT, NOT, OR, XOR};
+use crate::circuit::{Circuit, Gate, AND, INPUT, NOT, OR, VOTER, XOR};
 use crate::parities;
 use crate::random::Random;
 
@@ -11,9 +11,24 @@ pub enum Family {
     Deep,
     Adders,
     Parities,
+    Voters,
 }
 
-pub const FAMILIES: [Family; 5] = [Family::Mixed, Family::Wide, Family::Deep, Family::Adders, Family::Parities];
+pub const FAMILIES: [Family; 6] = [Family::Mixed, Family::Wide, Family::Deep, Family::Adders, Family::Parities, Family::Voters];
+
+/// Families that are taken together where lines go over several, and draw from the same random numbers where maps of several are drawn in turn.
+pub struct Group {
+    pub name: &'static str,
+    pub families: &'static [Family],
+}
+
+/// All families, in their order. Voters came when figures of the other five had been taken, and stand apart: these five give the figures that they gave
+/// without them.
+pub const GROUPS: [Group; 2] = [WITHOUT_VOTERS, VOTERS_ALONE];
+
+pub const WITHOUT_VOTERS: Group =
+    Group { name: "without voters", families: &[Family::Mixed, Family::Wide, Family::Deep, Family::Adders, Family::Parities] };
+pub const VOTERS_ALONE: Group = Group { name: "voters alone", families: &[Family::Voters] };
 
 impl Family {
     pub fn name(self) -> &'static str {
@@ -23,6 +38,7 @@ impl Family {
             Family::Deep => "deep",
             Family::Adders => "adders",
             Family::Parities => "parities",
+            Family::Voters => "voters",
         }
     }
 
@@ -33,6 +49,7 @@ impl Family {
             Family::Deep => "half NOT, else AND, OR and XOR of fan-in 2, a child among the three gates next below",
             Family::Adders => "full adders over sums and carries of others",
             Family::Parities => "XOR alone: equations over 3 to 7 inputs each",
+            Family::Voters => "three in four a voter, else a gate as in mixed, most children near",
         }
     }
 
@@ -68,6 +85,7 @@ impl Family {
         match self {
             Family::Wide => draft.add(random, wide),
             Family::Deep => draft.add(random, deep),
+            Family::Voters => draft.add(random, voters),
             Family::Adders if draft.left() >= FULL_ADDER + CONTRADICTION => draft.add_full_adder(random),
             _ => draft.add(random, |random, below| Gate::random(random, below, pick_near)),
         }
@@ -106,6 +124,13 @@ fn deep(random: &mut Random, below: &[u16]) -> Gate {
     let kind = [AND, OR, XOR][random.below(3)];
     let other = random.below(next);
     Gate { kind, children: vec![below[other], below[next]] }
+}
+
+fn voters(random: &mut Random, below: &[u16]) -> Gate {
+    if random.once_in(4) {
+        return Gate::random(random, below, pick_near);
+    }
+    Gate::over(random, VOTER, 3, below, pick_near)
 }
 
 /// A map as it grows. An eighth of its gates are inputs.

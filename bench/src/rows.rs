@@ -1,6 +1,6 @@
 //! What is measured, and what came out.
 
-use crate::families::{Family, FAMILIES};
+use crate::families::{Family, Group, FAMILIES};
 use crate::inputs::{Tape, SIZES};
 
 #[derive(Clone, Copy, PartialEq)]
@@ -93,10 +93,11 @@ impl Summary {
     }
 }
 
-/// Work by work, and size by size in each, over all families and seeds.
-pub fn by_size(rows: &[Row]) -> Vec<Summary> {
+/// Work by work, and size by size in each, over a group's families and all seeds.
+pub fn by_size(rows: &[Row], group: &Group) -> Vec<Summary> {
     let heads = WORKS.iter().flat_map(|&work| SIZES.iter().map(move |&gates| (work, gates)));
-    heads.map(|(work, gates)| Summary::new(rows, work, gates_name(gates), |cell| cell.gates == gates)).collect()
+    let summary = |work, gates| Summary::new(rows, work, gates_name(gates), |cell| cell.gates == gates && group.families.contains(&cell.family));
+    heads.map(|(work, gates)| summary(work, gates)).collect()
 }
 
 /// Work by work, and family by family in each, over all sizes and seeds.
@@ -105,9 +106,10 @@ pub fn by_family(rows: &[Row]) -> Vec<Summary> {
     heads.map(|(work, family)| Summary::new(rows, work, family.name().to_string(), |cell| cell.family == family)).collect()
 }
 
-/// The median nanoseconds of an engine for a work and size, over all families and seeds.
-pub fn median_time(rows: &[Row], work: Work, gates: usize, which: usize) -> f64 {
-    Spread::of(rows.iter().filter(|row| row.cell.work == work && row.cell.gates == gates).map(|row| row.times[which])).median
+/// The median nanoseconds of an engine for a work and size, over a group's families and all seeds.
+pub fn median_time(rows: &[Row], group: &Group, work: Work, gates: usize, which: usize) -> f64 {
+    let is_in = |cell: &Cell| cell.work == work && cell.gates == gates && group.families.contains(&cell.family);
+    Spread::of(rows.iter().filter(|row| is_in(&row.cell)).map(|row| row.times[which])).median
 }
 
 fn gates_name(gates: usize) -> String {

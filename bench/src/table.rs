@@ -1,15 +1,22 @@
 //! The rows as text.
 
 use crate::engine::ENGINES;
+use crate::families::{Group, GROUPS, VOTERS_ALONE, WITHOUT_VOTERS};
 use crate::inputs::{SIZES, TAPES};
 use crate::rows::{by_family, by_size, cells, median_time, ratio, Pair, Row, Spread, Summary, Work, WORKS};
 
 pub fn print(rows: &[Row]) {
-    println!("\nPeeriewick's number over plain C's: the median, and the least and the most of all that a line takes together.\n");
-    print_summaries("by size, over all families and seeds", &by_size(rows));
+    println!("\nPeeriewick's number over plain C's: the median, and the least and the most of all that a line takes together.");
+    println!("Lines 'without voters' go over the five families that there were before, so that they can be held against earlier ones.\n");
+    print_summaries("by size, over all seeds, without voters", &by_size(rows, &WITHOUT_VOTERS));
+    print_summaries("by size, over all seeds, voters alone", &by_size(rows, &VOTERS_ALONE));
     print_summaries("by family, over all sizes and seeds", &by_family(rows));
-    print_times(rows);
-    print_growth(rows);
+    for group in &GROUPS {
+        print_times(rows, group);
+    }
+    for group in &GROUPS {
+        print_growth(rows, group);
+    }
 }
 
 fn print_summaries(title: &str, summaries: &[Summary]) {
@@ -25,12 +32,12 @@ pub fn spread(spread: Spread) -> String {
     format!("{:.2} ({:.2} to {:.2})", spread.median, spread.least, spread.most)
 }
 
-/// The median over all families and seeds.
-fn print_times(rows: &[Row]) {
-    println!("{:40}{:>24}{:>24}", "median times, per move or call", ENGINES[0].name, ENGINES[1].name);
+/// The median over a group's families and all seeds.
+fn print_times(rows: &[Row], group: &Group) {
+    println!("{:40}{:>24}{:>24}", format!("median per move or call, {}", group.name), ENGINES[0].name, ENGINES[1].name);
     for work in WORKS {
         for gates in SIZES {
-            let times = [0, 1].map(|which| format!("{} ns", grouped(median_time(rows, work, gates, which))));
+            let times = [0, 1].map(|which| format!("{} ns", grouped(median_time(rows, group, work, gates, which))));
             println!("{:26}{:14}{:>24}{:>24}", work.name(), format!("{} gates", grouped(gates as f64)), times[0], times[1]);
         }
     }
@@ -38,14 +45,15 @@ fn print_times(rows: &[Row]) {
 }
 
 /// How many times longer a move takes on a map of four times the gates.
-fn print_growth(rows: &[Row]) {
-    println!("{:40}{:>24}{:>24}", "growth of the median time per move", "64 to 256 gates", "256 to 1,024 gates");
+fn print_growth(rows: &[Row], group: &Group) {
+    println!("{:40}{:>24}{:>24}", format!("growth of a move's time, {}", group.name), "64 to 256 gates", "256 to 1,024 gates");
     for work in TAPES.map(Work::Run) {
         for (which, engine) in ENGINES.iter().enumerate() {
-            let times = SIZES.map(|gates| median_time(rows, work, gates, which));
+            let times = SIZES.map(|gates| median_time(rows, group, work, gates, which));
             println!("{:26}{:14}{:>24.2}{:>24.2}", work.name(), engine.name, times[1] / times[0], times[2] / times[1]);
         }
     }
+    println!();
 }
 
 /// The instructions of a seed, cell by cell.

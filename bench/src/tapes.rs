@@ -1,7 +1,7 @@
 //! Which tapes and starts find a state: runs of the proved engine on satisfiable maps.
 
 use crate::engine::{FOUND, PROVED};
-use crate::families::{Family, FAMILIES};
+use crate::families::{Family, FAMILIES, GROUPS};
 use crate::random::Random;
 use crate::table::grouped;
 
@@ -131,25 +131,42 @@ impl Tally {
     }
 }
 
-/// The puzzles of each family, and what came of a third of each kind from the evaluated starts.
-struct Tables {
+/// The puzzles of each family of a group. Each group has random numbers of its own, so that its figures are the same whatever other groups there are.
+struct Puzzles {
     random: Random,
-    puzzles: Vec<Vec<Puzzle>>,
+    of_families: Vec<Vec<Puzzle>>,
+}
+
+impl Puzzles {
+    fn new(seed: u64, families: &[Family]) -> Puzzles {
+        let mut random = Random::new(seed);
+        let of_families = families.iter().map(|&family| (0..MAPS).map(|_| Puzzle::new(&mut random, family)).collect()).collect();
+        Puzzles { random, of_families }
+    }
+
+    fn tallies(&mut self, start: Start, mix: &Mix, tapes: usize) -> Vec<Tally> {
+        let Puzzles { random, of_families } = self;
+        of_families.iter().map(|puzzles| Tally(puzzles.iter().filter_map(|puzzle| puzzle.search(random, start, mix, tapes)).collect())).collect()
+    }
+}
+
+/// The puzzles of all families, and what came of a third of each kind from the evaluated starts.
+struct Tables {
+    groups: Vec<Puzzles>,
     thirds: Vec<Tally>,
 }
 
 impl Tables {
     fn new(seed: u64) -> Tables {
-        let mut random = Random::new(seed);
-        let puzzles = FAMILIES.iter().map(|&family| (0..MAPS).map(|_| Puzzle::new(&mut random, family)).collect()).collect();
-        let mut tables = Tables { random, puzzles, thirds: Vec::new() };
+        let groups = GROUPS.iter().map(|group| Puzzles::new(seed, group.families)).collect();
+        let mut tables = Tables { groups, thirds: Vec::new() };
         tables.thirds = tables.tallies(Start::Evaluated, &THIRDS, TAPES);
         tables
     }
 
+    /// One of each family, in the families' order.
     fn tallies(&mut self, start: Start, mix: &Mix, tapes: usize) -> Vec<Tally> {
-        let Tables { random, puzzles, .. } = self;
-        puzzles.iter().map(|group| Tally(group.iter().filter_map(|puzzle| puzzle.search(random, start, mix, tapes)).collect())).collect()
+        self.groups.iter_mut().flat_map(|group| group.tallies(start, mix, tapes)).collect()
     }
 
     fn print_mixes(&mut self) {

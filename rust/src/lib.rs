@@ -18,6 +18,8 @@ pub mod kind {
     pub const AND: u8 = 2;
     pub const OR: u8 = 3;
     pub const XOR: u8 = 4;
+    /// 1 where at least two of its three children are.
+    pub const VOTER: u8 = 5;
 }
 
 /// The kinds of a tape entry: its third byte.
@@ -47,7 +49,7 @@ impl Refused {
             1 => "the map is shorter than 12 bytes",
             2 => "the map has no gate or more than 1,024",
             3 => "an offset or the map's length isn't what the counts give",
-            4 => "a kind is above 4 or a fan-in isn't allowed for its kind",
+            4 => "a kind is above 5 or a fan-in isn't allowed for its kind",
             5 => "a first child position or the child count is wrong",
             6 => "a child isn't below its gate or doesn't ascend",
             7 => "a code's gate is past the last or doesn't ascend, or its value or zero byte is wrong",
