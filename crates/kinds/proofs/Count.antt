@@ -1,5 +1,5 @@
 -- What a kind makes of how many of its children are at 1: a new kind is a law more. Assumes nothing.
-use Prim.Native.Nat.{ℕ, zero, suc, ◌+◌, ◌%◌}
+use Prim.Native.Nat.{ℕ, zero, suc, ◌+◌, ◌%◌, ◌≤◌}
 use mathlib.Core.Path.{◌≡◌, refl, sym, ap, ◌∙◌}
 use mathlib.Core.Logic.{inl, inr}
 use mathlib.Core.Bool.{Bool, true, false, not, not-not}
@@ -7,9 +7,9 @@ use mathlib.Core.List.{List, [], ◌∷◌, ◌++◌, map, map-append}
 use native.Mathlib.Omega.{arith}
 use native.Mathlib.Nat.{zero-add}
 use lib.ListN.{length}
-use lib.Dec.{eqb, leb, ltb}
-use borrow.Author.Tests.{eqb-true, eqb-false, eq-eqb, ne_eqb}
-use Rattle.folds.proofs.Tests.{which}
+use lib.Dec.{eqb, leb}
+use borrow.Author.Tests.{eqb-true, eqb-false, eq-eqb, ne_eqb, leb-true, le-leb}
+use Rattle.folds.proofs.Tests.{which, same_test}
 use Rattle.circuit.specs.Tools.{up_to, select}
 use Rattle.circuit.specs.declared.Kind.TheVariants.{Not, And, Or, Xor, Voter}
 use Rattle.circuit.specs.Gate.{odd_on, count_on}
@@ -49,14 +49,14 @@ module _ (n ones : ℕ) where
   pub not_gives : GivesBy Not n ones (eqb (ones % 2) 0)
   not_gives vs l e = rw (← e) (count_even vs)
 
-  pub and_gives : GivesBy And n ones (eqb ones n)
-  and_gives vs l e = rw (← e, ← l) (count_all vs)
-
-  pub or_gives : GivesBy Or n ones (ltb 0 ones)
-  or_gives vs l e = rw (← e) (count_some vs)
-
   pub xor_gives : GivesBy Xor n ones (eqb (ones % 2) 1)
   xor_gives vs l e = rw (← e) (count_odd vs)
+
+  pub and_gives : ones ≤ n → GivesBy And n ones (leb n ones)
+  and_gives h vs l e = same_test (leb n ones) (eqb ones n) (λ q. eq-eqb ones n (omega (arith, leb-true n ones q))) (λ q. le-leb n ones (omega (arith, eqb-true ones n q))) ∙ rw (← e, ← l) (count_all vs)
+
+  pub or_gives : GivesBy Or n ones (leb 1 ones)
+  or_gives vs l e = rw (← e) (count_some vs)
 
   pub voter_gives : GivesBy Voter n ones (leb 2 ones)
   voter_gives vs l e = rw e

@@ -1,5 +1,5 @@
--- What test 4 goes by; and for inner functions the fan-in of a kind that allows one alone, what a gate gives, by the number of its children at 1, whether all its children are relevant, and what its options turn, by place. Assumes
--- nothing.
+-- What test 4 goes by; and for inner functions the fan-in of a kind that allows one alone, what a gate gives, by the number of its children at 1, and how many of these it needs, whether all its children are relevant whatever
+-- their values are, and what its options turn, by place. Assumes nothing.
 use Rattle.std.specs.Prelude.{ℕ, ◌+◌, ◌≡◌, Bool, true, false, not, List, length, eqb, leb, Option, Some, None}
 use Rattle.folds.specs.Folds.{◌and◌}
 use Rattle.circuit.specs.Tools.{same}
@@ -24,15 +24,25 @@ only_fan_in Voter = Some 3
 abbrev pub GivesBy : Kind → ℕ → ℕ → Bool → Type 0
 GivesBy k n ones v = (vs : List Bool) → length vs ≡ n → count_on vs ≡ ones → v ≡ gives k vs
 
--- Are all children of a justified gate of kind k with value v relevant? Else those with its value are. (An input has none.) That this is `relevant` of Gate.antt is `relevant_by` of
+-- How many children at 1 a gate of kind k with n children needs to be at 1, where that is all that counts: an AND, an OR or a voter. That it is so is `kinds_give` of
+-- proofs/Count.antt. (The other kinds' clauses are used nowhere: NOT and XOR go by parity, and an input has no children.)
+abbrev pub needed : Kind → ℕ → ℕ
+needed Input n = 1
+needed Not n = 1
+needed And n = n
+needed Or n = 1
+needed Xor n = 1
+needed Voter n = 2
+
+-- Are all children of a justified gate of kind k relevant, whatever their values are? Else those with the gate's value are. That this is `relevant` of Gate.antt is `relevant_by` of
 -- proofs/Relevant.antt.
-abbrev pub all_relevant : Kind → Bool → Bool
-all_relevant Input v = false
-all_relevant Not v = true
-all_relevant And v = v
-all_relevant Or v = not v
-all_relevant Xor v = true
-all_relevant Voter v = false
+abbrev pub all_relevant : Kind → Bool
+all_relevant Input = false
+all_relevant Not = true
+all_relevant And = false
+all_relevant Or = false
+all_relevant Xor = true
+all_relevant Voter = false
 
 -- A gate's down options by the places of its children: how many a gate of this kind with value v and n children has, and whether option i turns child
 -- j, whose value is x. That these are `options` of Gate.antt is `options_by` of proofs/ByPlace.antt.

@@ -3,7 +3,7 @@
 
 ghost use Rattle.std.specs.Prelude.{◌≡◌, ◌≤◌};
 ghost use Rattle.circuit.specs.Gate.{kind_of, fan_in_fits};
-ghost use Rattle.kinds.specs.Kinds.{kind_fits, only_fan_in, GivesBy, all_relevant, option_count, in_pair, option_turns};
+ghost use Rattle.kinds.specs.Kinds.{kind_fits, only_fan_in, needed, GivesBy, all_relevant, option_count, in_pair, option_turns};
 
 use circuit::Kind;
 
@@ -11,11 +11,6 @@ use circuit::Kind;
 const LEAST: [u8; 6] = [0, 1, 2, 2, 2, 3];
 
 const MOST: [u8; 6] = [0, 1, 8, 8, 2, 3];
-
-// Are all children of a justified gate relevant: of each kind, at 0 and at 1? (Tables too, as a `match` would be one more jump by the kind.)
-const ALL_AT_0: [bool; 6] = [false, true, false, true, true, false];
-
-const ALL_AT_1: [bool; 6] = [false, true, true, false, true, false];
 
 // The kind of a kind byte. One above the last kind's is read as the last kind's, as in `kind_of`, so that the compiler needs no jump.
 #[tactic(auto, using(crate::proofs::Bytes::past_last))]
@@ -43,20 +38,28 @@ pub fn fits(kind: u8, fan: u8) -> bool
     Kind::try_from(kind).is_ok_and(|known| allows(known, fan))
 }
 
-// The fan-in of a kind that allows one alone; none for an input and for kinds of several. A pass that knows it reads such a gate's children without a loop. (One comparison after the other: a `match` of four cases is a jump by a table, which is often predicted wrongly.)
+// The fan-in of a kind that allows one alone; none for an input and for kinds of several. (By halves of the kinds, so that it takes two comparisons: a `match` of so many cases is a jump by a table, which is often predicted wrongly.)
 pub fn only_fan_in(kind: Kind) -> Option<usize>
     ensures { result ≡ only_fan_in kind }
 {
-    if matches!(kind, Kind::Not) {
-        return Some(1);
+    if Kind::Xor as usize <= kind as usize {
+        Some(if matches!(kind, Kind::Xor) { 2 } else { 3 })
+    } else if matches!(kind, Kind::Not) {
+        Some(1)
+    } else {
+        None
     }
-    if matches!(kind, Kind::Xor) {
-        return Some(2);
+}
+
+// How many children at 1 an AND, an OR or a voter with `fan` children needs to be at 1. (By it AND and OR are told apart without a jump, which would often be predicted wrongly. The other kinds don't go by it.)
+fn needed(kind: Kind, fan: usize) -> usize
+    ensures { result ≡ needed kind fan }
+{
+    match kind {
+        Kind::And => fan,
+        Kind::Or | Kind::Input | Kind::Not | Kind::Xor => 1,
+        Kind::Voter => 2,
     }
-    if matches!(kind, Kind::Voter) {
-        return Some(3);
-    }
-    None
 }
 
 // What a gate of this kind gives where `ones` of its `fan` children are at 1.
@@ -68,19 +71,16 @@ pub fn gives(kind: Kind, fan: usize, ones: usize) -> bool
     match kind {
         Kind::Input => false,
         Kind::Not => ones % 2 == 0,
-        Kind::And => ones == fan,
-        Kind::Or => 0 < ones,
         Kind::Xor => ones % 2 == 1,
-        Kind::Voter => 2 <= ones,
+        Kind::And | Kind::Or | Kind::Voter => needed(kind, fan) <= ones,
     }
 }
 
-// Are all children of a justified gate of this kind with value v relevant? Else those with its value are. (An input has none.)
-pub fn all_relevant(kind: Kind, v: bool) -> bool
-    ensures { result ≡ all_relevant kind v }
+// Are all children of a justified gate of this kind relevant, whatever their values are? Else those with its value are.
+pub fn all_relevant(kind: Kind) -> bool
+    ensures { result ≡ all_relevant kind }
 {
-    let place = kind as usize;
-    if v { ALL_AT_1[place] } else { ALL_AT_0[place] }
+    matches!(kind, Kind::Not | Kind::Xor)
 }
 
 // How many options a gate of this kind with value v and `fan` children has.

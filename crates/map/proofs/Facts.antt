@@ -1,5 +1,5 @@
 -- What Check's verdict says: the facts of an accepted map, and that its circuit is well formed. Assumes nothing.
-use Prim.Native.Nat.{ℕ, zero, suc, ◌+◌, ◌-◌, ◌<◌, ◌≤◌}
+use Prim.Native.Nat.{ℕ, zero, suc, ◌+◌, ◌-◌, ◌<◌}
 use mathlib.Core.Path.{◌≡◌, sym, ◌∙◌}
 use mathlib.Core.Bool.{true}
 use mathlib.Core.Logic.{inl, inr}
@@ -15,13 +15,12 @@ use Rattle.folds.specs.Folds.{◌or◌, all_below}
 use Rattle.folds.proofs.Tests.{and_left, and_right, or_past}
 use Rattle.folds.proofs.Loops.{all_at}
 use Rattle.circuit.specs.Tools.{up_to, Rising}
-use Rattle.circuit.specs.Gate.{last_kind}
 use Rattle.circuit.specs.Circuit.{WellFormed}
 use Rattle.circuit.specs.declared.Refusal.{Refusal}
 use Rattle.circuit.specs.Refusal.{number_of}
 use Rattle.circuit.proofs.Refusals.{number_some}
 use Rattle.circuit.proofs.Lists.{in_up_to, length_up_to, rising_end}
-use Rattle.map.specs.Map.{gate_count, code_count, kind_byte, fan_in, child_at, code_gate, kids_of, circuit}
+use Rattle.map.specs.Map.{gate_count, code_count, fan_in, child_at, code_gate, kids_of, circuit}
 use Rattle.kinds.specs.Kinds.{kind_fits}
 use Rattle.map.specs.Check.{kind_test, positions_test, child_test, children_test, code_test, first_failed, contents_tests, bodies_tests, map_tests, verdict}
 use Rattle.map.specs.Inner.{IsMap}
@@ -95,11 +94,6 @@ module _ (m : List ℕ) where
 pub ruleset verdict_by = (refused_early, verdict_late, facts)
 
 module _ (m : List ℕ) (k : IsMap m) where
-  -- its gates' kind bytes are kinds
-  pub known_kind : (g : ℕ) → g < gate_count m → kind_byte m g ≤ last_kind
-  unfolding kind_test kind_fits
-  known_kind g h = leb-true _ _ (and_left _ _ (k.kinds g h))
-
   pub kids_length : (g : ℕ) → length (kids_of m g) ≡ fan_in m g
   unfolding kids_of
   kids_length g = length-map (up_to (fan_in m g)) (λ j. child_at m g j) ∙ length_up_to (fan_in m g)

@@ -42,8 +42,6 @@ impl<'a> Map<'a> {
     }
 
     // Gate g, its record read once: where a loop writes, the compiler would read it again each time, as it does not know that slices don't overlap.
-    // (Its kind by `unwrap`: past that jump the compiler knows that the byte is a kind's. By `unwrap_or`, without the jump, runs and Evaluate executed 2 to 6 % more.)
-    #[tactic(auto, using(crate::proofs::Facts::known_kind))]
     pub fn gate(self, g: usize) -> Gate<'a>
         requires { g < self.gates }
         ensures { (result.map ≡ self.entry) × (result.number ≡ g) }
@@ -51,7 +49,7 @@ impl<'a> Map<'a> {
         Gate {
             map: self,
             number: g,
-            kind: Kind::try_from(self.table().kind_byte(g)).unwrap(),
+            kind: self.kind(g),
             first: usize::from(self.table().first_child(g)),
         }
     }

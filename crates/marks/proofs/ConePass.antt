@@ -2,16 +2,21 @@
 use Prim.Native.Nat.{ℕ, zero, suc, ◌+◌, ◌-◌, ◌*◌, ◌<◌, ◌≤◌}
 use mathlib.Core.Path.{◌≡◌, refl, sym, ◌∙◌}
 use mathlib.Core.Logic.{inl, inr}
-use mathlib.Core.Bool.{Bool, true, false, not, cond}
-use mathlib.Core.List.{List, Memᴰ as In}
+use mathlib.Core.Bool.{Bool, true, false, not, cond, true≢false}
+use mathlib.Core.List.{List, [], Memᴰ as In}
 use native.Mathlib.Omega.{arith}
 use lib.ListN.{length, get_or, set}
+use lib.Dec.{eqb}
 use lib.Seq.{set-get_or}
-use borrow.Author.Tests.{eq-eqb, ne_eqb}
+use borrow.Author.Tests.{eqb-true, eqb-false, eq-eqb, ne_eqb}
 use Rattle.folds.proofs.Tests.{which, and_past, and_first_false}
 use Rattle.circuit.specs.Tools.{byte}
-use Rattle.circuit.specs.Circuit.{Circuit, WellFormed, coded, justified}
+use Rattle.circuit.specs.Gate.{is_input, relevant}
+use Rattle.circuit.specs.Circuit.{Circuit, WellFormed, coded, on, justified}
 use Rattle.circuit.specs.Survey.{reasons, cone, in_front, front, front_size}
+use Rattle.circuit.proofs.Lists.{select_none}
+use Rattle.circuit.proofs.Gate.{no_part}
+use Rattle.circuit.proofs.Evaluate.{justify}
 use Rattle.circuit.proofs.Cone.{reasons_kids}
 use Rattle.marks.specs.Marks.{cone_marks, MarksOf, ConeTurned, paint, to_one, cone_turn, front_at}
 use Rattle.marks.proofs.Tables.{table_of, count_from, count_none, count_more, count_all}
@@ -34,6 +39,25 @@ module _ (c : Circuit) (s : List ℕ) (g : ℕ) (w : List ℕ) where
     pub turn_brings : justified c s g ≡ true → (v : List ℕ) → v ≡ paint to_one (reasons c s g) w → ConeTurned c s g w v 0
     unfolding cone_turn front_at
     turn_brings j v e = let q = ne_eqb (get_or w g 0) 0 in-it in record { marks = rw (q, j) e; front = rw (q, j); small = omega arith }
+
+  -- an input is justified and brings nothing
+  module _ (i : is_input (c.kind g) ≡ true) where
+    input_justified : justified c s g ≡ true
+    input_justified = justify c s g (λ o. absurd (true≢false (sym i ∙ o)))
+
+    brings_nothing : reasons c s g ≡ []
+    unfolding reasons
+    brings_nothing = rw input_justified (select_none _ (c.kids g) (λ x m. elim (which (relevant (c.kind g) (on s g) (on s x))) [
+      | inl q ↦ absurd (no_part (c.kind g) (on s g) (on s x) i q)
+      | inr q ↦ q
+    ]))
+
+    pub turn_of_input : ConeTurned c s g w w 0
+    unfolding paint
+    turn_of_input = elim (which (eqb (get_or w g 0) 0)) [
+      | inl q ↦ turn_skips (eqb-true (get_or w g 0) 0 q)
+      | inr q ↦ turn_brings (eqb-false (get_or w g 0) 0 q) input_justified w (rw brings_nothing)
+    ]
 
 -- ---- the pass
 

@@ -8,6 +8,7 @@ ghost use Rattle.map.specs.Map.{code_count, fan_in, circuit};
 ghost use Rattle.map.specs.Inner.{CodeMarks};
 ghost use Rattle.marks.specs.Marks.{cone_marks, MarksOf, ConeTurned, paint, to_one};
 
+use circuit::Kind;
 use state::Values;
 
 // Marks that are the cone and the front of a configuration.
@@ -46,13 +47,13 @@ fn mark_kids(s: Values, g: usize, fan: usize, v: bool, marks: &mut [u8])
     ensures { marks.new ≡ paint to_one (reasons (circuit s.entry.map.bytes.now) s.entry.bytes.now g) marks.old }
 {
     let gate = s.map.gate(g);
-    let all = kinds::all_relevant(gate.kind, v);
+    let all = kinds::all_relevant(gate.kind);
     for j in 0..fan {
         mark_child(all, v, gate.kid(j), s, marks);
     }
 }
 
-// What gate g of the cone, with `fan` children, does: it is in the front, or it brings its relevant children. Is it in the front? (The value is written out, so that the compiler makes a loop for each, without a test of it: without, moves on wide maps executed a tenth more.)
+// What gate g of the cone, with `fan` children, does: it is in the front, or it brings its relevant children. Is it in the front? (The value is written out, so that the compiler makes code for each: without, runs on wide maps took 2 to 10 % longer, though Survey took 5 % less.)
 #[inline(always)]
 fn mark_by(s: Values, g: usize, fan: usize, marks: &mut [u8]) -> bool
     requires gate { (g < s.map.gates) × (s.map.gates ≤ length marks.old) }
@@ -72,12 +73,12 @@ fn mark_by(s: Values, g: usize, fan: usize, marks: &mut [u8]) -> bool
     false
 }
 
-// Gate g's turn. Is it in the front? (A fan-in that is its kind's only one is written out, and so is two, as in `given` of `state`.)
+// Gate g's turn. Is it in the front? (Each fan-in is written out, as in `given` of `state`; the last arm is no gate's. An input, which is justified and brings nothing, is done first: where the compiler doesn't know that it is, it tests for more kinds behind the children than can be there.)
 fn mark_gate(s: Values, g: usize, marks: &mut [u8]) -> bool
     requires { (g < s.map.gates) × (s.map.gates ≤ length marks.old) }
     ensures { ConeTurned (circuit s.entry.map.bytes.now) s.entry.bytes.now g marks.old marks.new (byte result) }
 {
-    if marks[g] == 0 {
+    if marks[g] == 0 || s.map.kind(g) == Kind::Input {
         return false;
     }
     let gate = s.map.gate(g);
@@ -87,6 +88,12 @@ fn mark_gate(s: Values, g: usize, marks: &mut [u8]) -> bool
         Some(3) => mark_by(s, g, 3, marks),
         _ => match gate.fan() {
             2 => mark_by(s, g, 2, marks),
+            3 => mark_by(s, g, 3, marks),
+            4 => mark_by(s, g, 4, marks),
+            5 => mark_by(s, g, 5, marks),
+            6 => mark_by(s, g, 6, marks),
+            7 => mark_by(s, g, 7, marks),
+            8 => mark_by(s, g, 8, marks),
             fan => mark_by(s, g, fan, marks),
         },
     }

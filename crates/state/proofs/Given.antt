@@ -1,4 +1,4 @@
--- What its children give a gate, by how many of them are at 1, and whether it is justified. Assumes nothing.
+-- What its children give a gate, by how many of them are at 1, and the fan-in of a gate whose kind allows one alone. Assumes nothing.
 use Rattle.std.proofs.Common.{ℕ, Option, Some, ◌≡◌, Bool, List, [], ◌∷◌, map, length, refl, sym, ap, ◌∙◌}
 use Rattle.std.proofs.lemmas.List.{length-map}
 use Rattle.circuit.specs.Tools.{up_to, select}

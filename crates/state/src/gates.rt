@@ -46,7 +46,7 @@ impl Values<'_> {
         kinds::gives(self.map.gate(g).kind, fan, self.ones(g, fan))
     }
 
-    // Do its children give gate g the value 1? (Where the kind has one fan-in alone it is written out, and so are two children, the most frequent number: the compiler then reads them without a loop, whose end would often be predicted wrongly.)
+    // Do its children give gate g the value 1? (Each fan-in is written out, by the kind where that allows one alone: the compiler then reads the children without a loop, whose end would often be predicted wrongly. The last arm is an input's.)
     #[inline(always)]
     pub fn given(self, g: usize) -> bool
         requires { g < self.map.gates }
@@ -59,6 +59,12 @@ impl Values<'_> {
             Some(3) => self.given_by(g, 3),
             _ => match gate.fan() {
                 2 => self.given_by(g, 2),
+                3 => self.given_by(g, 3),
+                4 => self.given_by(g, 4),
+                5 => self.given_by(g, 5),
+                6 => self.given_by(g, 6),
+                7 => self.given_by(g, 7),
+                8 => self.given_by(g, 8),
                 fan => self.given_by(g, fan),
             },
         }
