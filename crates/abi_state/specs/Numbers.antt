@@ -1,10 +1,11 @@
--- Document 01's calls for hosts in C and Rust. What they return and leave is said by the same definitions as the calls' own; here stands only where a host finds it.
+-- Document 01's calls, and Export of document 02, for hosts in C and Rust. What they return and leave is said by the same definitions as the calls' own; here stands only where a host finds it.
 -- Assumes nothing.
 use Rattle.std.specs.Prelude.{ℕ, ◌<◌, ◌≤◌, ◌≡◌, ◌↔◌, Bool, true, cond, List, [], ◌∷◌, length, get_or}
 use Rattle.circuit.specs.Tools.{byte}
 use Rattle.map.specs.Check.{CheckEffect, check_effect}
 use Rattle.map.specs.Children.{stretch_place, stretch_length}
 use Rattle.state.specs.State.{EvaluateEffect, evaluate_effect, MarkEffect, mark_effect}
+use Rattle.export.specs.Export.{ExportEffect, export_effect}
 
 -- the numbers xs in the first places of the lent memory ns, as many as it has
 unfoldable pub placed : List ℕ → List ℕ → List ℕ
@@ -41,6 +42,10 @@ evaluate_for_host r = host_answer r.number (r.out ∷ []) []
 abbrev pub mark_for_host : MarkEffect → List ℕ → HostEffect
 mark_for_host r ns = host_answer r.number [] (numbers_after r.accepted (byte r.yes ∷ []) ns)
 
+-- Export, F-4: "The call returns the text's length."
+abbrev pub export_for_host : ExportEffect → List ℕ → HostEffect
+export_for_host r ns = host_answer r.number (r.out ∷ []) (numbers_after r.accepted (r.size ∷ []) ns)
+
 -- What `placed` leaves: as many places as before, the numbers in the first of them in their order, and the other places as they were.
 pub record PlacedMeans (xs ns : List ℕ) : Type 0 where
   pub as_many : length (placed xs ns) ≡ length ns
@@ -55,3 +60,4 @@ pub record StateZero : Type 0 where
   pub check_zero : (m : List ℕ) → ((check_effect m).number ≡ 0) ↔ ((check_effect m).accepted ≡ true)
   pub evaluate_zero : (m row out : List ℕ) → ((evaluate_effect m row out).number ≡ 0) ↔ ((evaluate_effect m row out).accepted ≡ true)
   pub mark_zero : (m s : List ℕ) → ((mark_effect m s).number ≡ 0) ↔ ((mark_effect m s).accepted ≡ true)
+  pub export_zero : (m out : List ℕ) → ((export_effect m out).number ≡ 0) ↔ ((export_effect m out).accepted ≡ true)

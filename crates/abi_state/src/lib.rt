@@ -1,4 +1,4 @@
-// Check, Children, Evaluate and Mark for hosts in C and Rust, on byte slices and numbers. Each but children returns the number that it is refused with, or 0. The other numbers of
+// Check, Children, Evaluate, Mark and Export for hosts in C and Rust, on byte slices and numbers. Each but children returns the number that it is refused with, or 0. The other numbers of
 // its answer go into `numbers`, as many as there are places; a refused call leaves it as it was, like all lent memory.
 #![tactic(auto)]
 
@@ -7,7 +7,8 @@ pub mod place;
 ghost use Rattle.std.specs.Prelude.{◌≡◌, [], ◌∷◌};
 ghost use Rattle.map.specs.Check.{check_effect};
 ghost use Rattle.state.specs.State.{evaluate_effect, mark_effect};
-ghost use Rattle.abi_state.specs.Numbers.{host_answer, check_for_host, children_numbers, evaluate_for_host, mark_for_host};
+ghost use Rattle.export.specs.Export.{export_effect};
+ghost use Rattle.abi_state.specs.Numbers.{host_answer, check_for_host, children_numbers, evaluate_for_host, mark_for_host, export_for_host};
 
 use place::Numbers;
 
@@ -49,5 +50,16 @@ pub extern "C" fn peeriewick_mark(map: &[u8], configuration: &[u8], numbers: &mu
         ≡ mark_for_host (mark_effect map.now configuration.now) numbers.old }
 {
     let answer = state::mark(map, configuration).map(|yes| Numbers([usize::from(yes)]));
+    place::tell(numbers, answer)
+}
+
+// Export. Numbers: the text's length.
+#[tactic(auto, unfolding(export::specs::Export::export_answer))]
+#[unsafe(no_mangle)]
+pub extern "C" fn peeriewick_export(map: &[u8], out: &mut [u8], numbers: &mut [usize]) -> u8
+    ensures { host_answer result (out.new ∷ []) numbers.new
+        ≡ export_for_host (export_effect map.now out.old) numbers.old }
+{
+    let answer = export::export(map, out).map(|size| Numbers([size]));
     place::tell(numbers, answer)
 }

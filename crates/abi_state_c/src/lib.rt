@@ -1,11 +1,12 @@
-// The static library of Check, Children, Evaluate and Mark for hosts in C and Rust: each export calls the function of its name in `abi_state`, on which the other
+// The static library of Check, Children, Evaluate, Mark and Export for hosts in C and Rust: each export calls the function of its name in `abi_state`, on which the other
 // levels' static libraries build too, and has its clauses. (Twice, as a static library exports the functions of its own crate alone.)
 #![tactic(auto)]
 
 ghost use Rattle.std.specs.Prelude.{◌≡◌, [], ◌∷◌};
 ghost use Rattle.map.specs.Check.{check_effect};
 ghost use Rattle.state.specs.State.{evaluate_effect, mark_effect};
-ghost use Rattle.abi_state.specs.Numbers.{host_answer, check_for_host, children_numbers, evaluate_for_host, mark_for_host};
+ghost use Rattle.export.specs.Export.{export_effect};
+ghost use Rattle.abi_state.specs.Numbers.{host_answer, check_for_host, children_numbers, evaluate_for_host, mark_for_host, export_for_host};
 
 // Check. Numbers: gates, inputs, children, codes.
 #[unsafe(no_mangle)]
@@ -39,4 +40,13 @@ pub extern "C" fn peeriewick_mark(map: &[u8], configuration: &[u8], numbers: &mu
         ≡ mark_for_host (mark_effect map.now configuration.now) numbers.old }
 {
     abi_state::peeriewick_mark(map, configuration, numbers)
+}
+
+// Export. Numbers: the text's length.
+#[unsafe(no_mangle)]
+pub extern "C" fn peeriewick_export(map: &[u8], out: &mut [u8], numbers: &mut [usize]) -> u8
+    ensures { host_answer result (out.new ∷ []) numbers.new
+        ≡ export_for_host (export_effect map.now out.old) numbers.old }
+{
+    abi_state::peeriewick_export(map, out, numbers)
 }

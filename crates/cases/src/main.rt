@@ -1,4 +1,4 @@
-// Runs framed cases from standard input through Check, Children, Evaluate, Mark, Survey, Move, Run and the program's line, and prints a line for each.
+// Runs framed cases from standard input through Check, Children, Evaluate, Mark, Survey, Export, Move, Run and the program's line, and prints a line for each.
 // A case: an op byte, three u16 (the lengths of the map, of the body and of the output memory), for Move, Run and the program a u32 (the length of the
 // tape), for the last two also two u16 (how often the tape is repeated, and the length of the answer memory), the map, the body, the tape.
 #![tactic(auto)]
@@ -21,6 +21,7 @@ enum Op {
     Evaluate,
     Mark,
     Survey,
+    Export,
     Move,
     Run,
     Program,
@@ -34,6 +35,7 @@ impl From<u8> for Op {
             b'k' => Op::Children,
             b'e' => Op::Evaluate,
             b's' => Op::Survey,
+            b'x' => Op::Export,
             b'v' => Op::Move,
             b'r' => Op::Run,
             b'p' => Op::Program,
@@ -127,6 +129,14 @@ fn mark(rt: &impl Print, map: &[u8], configuration: &[u8]) -> io::Result<()> {
 fn survey(rt: &impl Print, map: &[u8], configuration: &[u8], out: &mut [u8]) -> io::Result<()> {
     match survey::survey(map, configuration, out) {
         Ok(sizes) => print!(rt; "SIZES {} {}", sizes.front, sizes.interest),
+        Err(refusal) => print_refused(rt, refusal),
+    }?;
+    print_memory(rt, out)
+}
+
+fn export(rt: &impl Print, map: &[u8], out: &mut [u8]) -> io::Result<()> {
+    match export::export(map, out) {
+        Ok(size) => print!(rt; "TEXT {size}"),
         Err(refusal) => print_refused(rt, refusal),
     }?;
     print_memory(rt, out)
@@ -232,6 +242,7 @@ fn one_case(rt: &impl Print, case: Case) -> io::Result<()> {
         Op::Evaluate => evaluate(rt, case.map, case.body, out),
         Op::Mark => mark(rt, case.map, case.body),
         Op::Survey => survey(rt, case.map, case.body, out),
+        Op::Export => export(rt, case.map, out),
         Op::Move => make_move(rt, case.map, &mut configuration, case.tape, out),
         Op::Run => run_case(rt, case, &mut configuration, out),
         Op::Program => program_case(rt, case),

@@ -1,6 +1,7 @@
 pub mod Bench
 pub mod Values
 pub mod Lists
+pub mod Over
 pub mod Justification
 pub mod Example001
 pub mod Shapes

@@ -1,5 +1,5 @@
 -- The few functions on values and lists that the definitions of documents 01 and 02 are written with. Assumes nothing.
-use Rattle.std.specs.Prelude.{ℕ, zero, suc, ◌<◌, ◌%◌, Bool, true, false, cond, not, length, get_or, eqb}
+use Rattle.std.specs.Prelude.{ℕ, zero, suc, ◌<◌, ◌%◌, Bool, true, false, cond, not, length, get_or, drop, eqb}
 use mathlib.Core.List.{List, [], ◌∷◌, ◌++◌, map, Memᴰ as In}
 use Rattle.folds.specs.Folds.{◌and◌, ◌or◌}
 
@@ -40,6 +40,10 @@ singles (x ∷ xs) = (x ∷ []) ∷ singles xs
 abbrev pub pairs : List ℕ → List (List ℕ)
 pairs [] = []
 pairs (x ∷ xs) = map (λ y. x ∷ y ∷ []) xs ++ pairs xs
+
+-- the lent memory w with x written over its first bytes. "Lent output, work and answer memory may be longer than needed; the surplus is never touched."
+abbrev pub over : List ℕ → List ℕ → List ℕ
+over x w = x ++ drop (length x) w
 
 module _ {A : Type 0} where
   -- the elements of which p holds, in order

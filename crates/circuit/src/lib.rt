@@ -55,6 +55,7 @@ pub enum Refusal {
     EntryKind = 13,
     ShortMemory = 14,
     EmptyFront = 15,
+    ShortText = 16,
 }
 
 impl From<Refusal> for u8 {

@@ -8,6 +8,7 @@ use Rattle.demands.specs.Demands.{Demand1}
 use Rattle.demands.proofs.Moves.{move_accepts, move_number, move_refuses}
 use Rattle.demands.proofs.Runs.{run_accepts, run_number, run_refuses}
 use Rattle.demands.proofs.Lines.{every_input}
+use Rattle.demands.proofs.Exports.{export_does, export_accepts, export_number, export_refuses}
 
 pub demand1 : Demand1
 demand1 = record {
@@ -24,6 +25,10 @@ demand1 = record {
   mark_number = mark_number;
   mark_refuses = mark_refuses;
   mark_does = mark_does;
+  export_accepts = export_accepts;
+  export_number = export_number;
+  export_refuses = export_refuses;
+  export_does = export_does;
   survey_accepts = survey_accepts;
   survey_number = survey_number;
   survey_refuses = survey_refuses;

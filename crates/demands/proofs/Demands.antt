@@ -11,6 +11,7 @@ use native.Mathlib.Omega.{arith}
 use lib.Dec.{eqb}
 use lib.ListN.{length, get_or, take, replicate, length-map, length-replicate, get_or-append}
 use Rattle.folds.proofs.Tests.{which}
+use Rattle.circuit.specs.Tools.{over}
 use Rattle.circuit.specs.declared.Ending.{Ending}
 use Rattle.circuit.specs.declared.Ending.TheVariants.{Found, Spent, Stuck, Refused}
 use Rattle.circuit.specs.declared.Entry.{Entry}
@@ -32,8 +33,8 @@ use Rattle.map.specs.Inner.{IsMap}
 use Rattle.map.proofs.Facts.{facts, well_formed}
 use Rattle.map.proofs.Codes.{code_found}
 use Rattle.map.proofs.Described.{map_accepts, accepted_maps}
-use Rattle.state.specs.State.{over, Satisfies}
-use Rattle.state.proofs.Over.{over_first, over_rest, over_long}
+use Rattle.state.specs.State.{Satisfies}
+use Rattle.circuit.proofs.Over.{over_first, over_rest, over_long}
 use Rattle.state.proofs.Meaning.{mark_does}
 use Rattle.survey.specs.Survey.{IsStart}
 use Rattle.survey.proofs.Meaning.{survey_does, survey_accepts}

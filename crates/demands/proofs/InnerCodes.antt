@@ -29,14 +29,15 @@ use Rattle.survey.proofs.Meaning.{survey_number}
 use Rattle.tape.specs.Tape.{entry_at, entries}
 use Rattle.search.specs.Move.{move_effect}
 use Rattle.search.specs.Run.{run_tests, run_answer, run_ended, run_by, run_effect}
-use Rattle.line.specs.Text.{decimal, read_decimal}
+use Rattle.text.specs.Text.{in_decimal, read_decimal}
 use Rattle.line.specs.Line.{map_part, configuration_part, tape_part, input_test, lent, refused_line, run_line, line_of}
 use Rattle.line.proofs.Lines.{line_refused, line_runs}
 use Rattle.demands.specs.InnerCodes.{NeverStuckOn, SatisfiedNeverStuck, CodedFree, moved_of_all, UnchangedWhereFree, Without8, InnerCodes}
 use Rattle.demands.proofs.Moves.{none as move-none, movable, written as move-written, move_does, move_number}
 use Rattle.demands.proofs.Runs.{none as run_none, written as run-written, runnable, run_number}
 use Rattle.demands.proofs.Demands.{run_does, demand3}
-use Rattle.demands.proofs.Lines.{lines_are, read_append, reads_back}
+use Rattle.text.proofs.Decimal.{read_append, reads_back}
+use Rattle.demands.proofs.Lines.{lines_are}
 
 -- ---- never stuck
 
@@ -134,8 +135,8 @@ run_number_few m s tape work ans =
 other_line : (n : ℕ) → n ≤ 15 → ¬ (n ≡ 8) → ¬ (refused_line n ≡ refused_line 8)
 other_line n h d e =
     let q = ap (λ (l : List ℕ). read_decimal (drop 8 l)) e in
-    let a = read_append 0 10 (decimal n) in
-    let b = read_append 0 10 (decimal 8) in
+    let a = read_append 0 10 (in_decimal n) in
+    let b = read_append 0 10 (in_decimal 8) in
     let c = reads_back 10 n (omega arith) in
     let k = reads_back 10 8 (omega arith) in
     d (omega (arith, q, a, b, c, k))

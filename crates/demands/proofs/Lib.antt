@@ -3,6 +3,8 @@ pub mod Moves
 pub mod Runs
 pub mod Demands
 pub mod Lines
+pub mod Exports
+pub mod Longest
 pub mod Demand1
 pub mod InnerCodes
 pub mod Table

@@ -1,40 +1,30 @@
--- What the line says: inputs that the program runs or refuses itself, all memories, its length, and its numbers. Assumes nothing.
-use Prim.Native.Nat.{ℕ, zero, suc, ◌+◌, ◌-◌, ◌*◌, ◌/◌, ◌%◌, ◌^◌, ◌≤◌, ◌<◌}
+-- What the line says: inputs that the program runs or refuses itself, all memories, and the line by the ending. Assumes nothing.
+use Prim.Native.Nat.{ℕ, ◌+◌, ◌-◌, ◌≤◌, ◌<◌}
 use mathlib.Core.Path.{◌≡◌, refl, sym, ap, ◌∙◌}
 use mathlib.Core.Bool.{true, false, false≢true}
 use mathlib.Core.Logic.{◌⊎◌, inl, inr}
-use mathlib.Core.List.{List, [], ◌∷◌, ◌++◌, append_assoc}
-use mathlib.Core.List.Memᴰ.{append_cases}
-use mathlib.Core.List.Memᴰ.{cases_cons as cases}
+use mathlib.Core.List.{List, [], ◌∷◌, append_assoc}
 use mathlib.Core.List.Memᴰ.{head as here}
-use mathlib.Core.List.Memᴰ.{not-nil as nowhere}
 use mathlib.Core.List.Memᴰ.{tail as there}
-use mathlib.Core.List.{Memᴰ as In}
 use native.Mathlib.Omega.{arith}
-use native.Mathlib.Nat.{pow-suc}
-use lib.ListN.{length, get_or, take, drop, length-append, length-map, length-drop, take-append-drop, get_or-append}
+use lib.ListN.{length, take, drop, length-drop, take-append-drop}
 use lib.Seq.{take_all, length-take-le, drop-drop}
-use lib.Dec.{eqb, leb, ltb}
-use borrow.Author.Tests.{eqb-true, eqb-false, eq-eqb, ne_eqb, leb-false, ltb-true, ltb-false}
+use lib.Dec.{eqb, leb}
+use borrow.Author.Tests.{eqb-true, eqb-false, eq-eqb, ne_eqb, leb-false}
 use Rattle.folds.proofs.Tests.{which, and_both}
-use Rattle.circuit.specs.Tools.{up_to}
-use Rattle.circuit.specs.Gate.{kind_of, is_input}
-use Rattle.circuit.specs.Evaluate.{row_of}
 use Rattle.circuit.specs.Run.{EndingValues}
-use Rattle.circuit.proofs.Lists.{select_length, length_up_to}
-use Rattle.map.specs.Map.{most_gates, u16_at, gate_count, kind_byte}
+use Rattle.map.specs.Map.{most_gates, u16_at, gate_count}
 use Rattle.map.specs.Check.{verdict}
-use Rattle.map.specs.Inner.{Shaped}
 use Rattle.map.proofs.Facts.{facts}
 use Rattle.map.proofs.Answers.{behind_refused}
-use Rattle.search.specs.Run.{run_tests, RunEffect, ending_values, run_answer, run_by, run_effect, Room}
+use Rattle.search.specs.Run.{run_tests, ending_values, run_answer, run_by, run_effect, Room}
 use Rattle.search.proofs.Endings.{stuck_alone}
 use Rattle.demands.proofs.Runs.{found_accepted, stuck_accepted}
 use Rattle.demands.proofs.Demands.{same_for_all_memories}
-use Rattle.line.specs.Text.{AreBytes, decimal_in, decimal, read_on, read_decimal, DecimalReads}
-use Rattle.line.specs.Line.{most_input, configuration_place, tape_place, map_part, configuration_part, tape_part, input_test, lent, row_text, report, effect_line, run_line, input_of, LinesAre, ExactInput, three_bodies, refused_0, EveryInput, SameLineForAllMemories, line_room, LineFits}
+use Rattle.text.specs.Text.{AreBytes}
+use Rattle.line.specs.Line.{most_input, configuration_place, tape_place, map_part, configuration_part, tape_part, input_test, lent, report, effect_line, run_line, input_of, LinesAre, ExactInput, three_bodies, refused_0, EveryInput, SameLineForAllMemories}
 use Rattle.line.proofs.Rows.{same_row}
-use Rattle.line.proofs.Lines.{found_shaped, Whole, whole, line_refused, line_runs, map_part_lem, configuration_part_lem, tape_part_lem, parts_whole}
+use Rattle.line.proofs.Lines.{Whole, whole, line_refused, line_runs, map_part_lem, configuration_part_lem, tape_part_lem, parts_whole}
 
 -- ---- inputs that the program runs, and inputs that it refuses itself
 
@@ -147,94 +137,3 @@ lines_are m s tape =
       stuck = λ z. rw (stuck_accepted m s tape lent lent z, stuck_alone m s tape lent lent z, z) (simp append_assoc);
       refused = λ a. rw a;
     }
-
--- ---- how long a line is
-
-decimal_length : (k n : ℕ) → length (decimal_in k n) ≤ k
-unfolding decimal_in
-decimal_length zero n = omega arith
-decimal_length (suc k) n = elim (which (ltb n 10)) [
-  | inl q ↦ rw q (omega arith)
-  | inr q ↦ rw q (simp length-append (omega (arith, decimal_length k (n / 10))))
-]
-
-row_length : (m ans : List ℕ) → length (row_text m ans) ≤ gate_count m
-unfolding row_of
-row_length m ans = simp length-map (omega (arith, select_length (λ g. is_input (kind_of (kind_byte m g))) (up_to (gate_count m)), length_up_to (gate_count m)))
-
-report_length : (e : EndingValues) (moves flips : ℕ) (m ans : List ℕ) → (e.found ≡ true → Shaped m) → length (report e moves flips m ans) ≤ line_room
-report_length e moves flips m ans s = elim (which e.accepted) [
-  | inl q ↦ elim (which e.found) [
-    | inl f ↦ rw (q, f) (simp length-append (omega (arith, decimal_length 10 moves, decimal_length 10 flips, row_length m ans, (s f).few)))
-    | inr f ↦ elim (which e.stuck) [
-      | inl z ↦ rw (q, f, z) (simp length-append (omega (arith, decimal_length 10 moves, decimal_length 10 flips)))
-      | inr z ↦ rw (q, f, z) (simp length-append (omega (arith, decimal_length 10 moves, decimal_length 10 flips, decimal_length 10 e.front)))
-    ]
-  ]
-  | inr q ↦ rw q (simp length-append (omega (arith, decimal_length 10 e.number)))
-]
-
--- the run on an input's parts
-abbrev ran : List ℕ → RunEffect
-ran x = run_effect (map_part x) (configuration_part x) (tape_part x) lent lent
-
-pub line_fits : LineFits
-line_fits x = elim (which (input_test x)) [
-  | inl q ↦ rw (← line_runs x q) (report_length (ending_values (ran x)) _ _ _ _ (found_shaped (map_part x) (configuration_part x) (tape_part x) lent lent))
-  | inr q ↦ rw (← line_refused x q) (simp length-append (omega (arith, decimal_length 10 0)))
-]
-
--- ---- its numbers, by induction on their places
-
-pub read_append : (n b : ℕ) (bs : List ℕ) → read_on n (bs ++ (b ∷ [])) ≡ 10 * read_on n bs + (b - 48)
-unfolding read_on
-read_append n b [] = refl
-read_append n b (c ∷ bs) = read_append (10 * n + (c - 48)) b bs
-
-pub reads_back : (k n : ℕ) → n < 10 ^ k → read_decimal (decimal_in k n) ≡ n
-unfolding decimal_in read_on
-reads_back zero n h = omega arith
-reads_back (suc k) n h = elim (which (ltb n 10)) [
-  | inl q ↦ rw q (omega arith)
-  | inr q ↦ (let l : n / 10 < 10 ^ k = omega (arith, pow-suc 10 k) in
-      let e : 10 * (n / 10) + ((48 + n % 10) - 48) ≡ n = omega arith in
-      rw q (read_append 0 (48 + n % 10) (decimal_in k (n / 10)) ∙ rw (reads_back k (n / 10) l) e))
-]
-
-all_digits : (k n b : ℕ) → In b (decimal_in k n) → (48 ≤ b) × (b ≤ 57)
-unfolding decimal_in
-all_digits zero n b i = absurd (nowhere i)
-all_digits (suc k) n b i = elim (which (ltb n 10)) [
-  | inl q ↦ elim (cases (rw q at i)) [
-    | inl e ↦ (omega (arith, ltb-true n 10 q), omega (arith, ltb-true n 10 q))
-    | inr j ↦ absurd (nowhere j)
-  ]
-  | inr q ↦ elim (append_cases (decimal_in k (n / 10)) (rw q at i)) [
-    | inl j ↦ all_digits k (n / 10) b j
-    | inr j ↦ elim (cases j) [ inl e ↦ (omega arith, omega arith) | inr l ↦ absurd (nowhere l) ]
-  ]
-]
-
--- a number that fits in its places and is not 0 has a first digit, which is not 0
-first_digit : (k n : ℕ) → n < 10 ^ k → 1 ≤ n → (1 ≤ length (decimal_in k n)) × (¬ (get_or (decimal_in k n) 0 0 ≡ 48))
-unfolding decimal_in
-first_digit zero n h p = absurd (omega arith)
-first_digit (suc k) n h p = elim (which (ltb n 10)) [
-  | inl q ↦ rw q (omega arith, λ e. omega arith)
-  | inr q ↦ (let l : n / 10 < 10 ^ k = omega (arith, pow-suc 10 k) in
-      let o : 1 ≤ n / 10 = omega (arith, ltb-false n 10 q) in
-      let (s, f) = first_digit k (n / 10) l o in
-      rw q (simp length-append (omega arith), rw (get_or-append (decimal_in k (n / 10)) ((48 + n % 10) ∷ []) 0 0 s) f))
-]
-
-zero_digit : decimal 0 ≡ 48 ∷ []
-unfolding decimal_in
-zero_digit = refl
-
-pub decimal_reads : DecimalReads
-decimal_reads n h = record {
-  reads = reads_back 10 n h;
-  digits = all_digits 10 n;
-  no_leading_zero = λ p. (first_digit 10 n h p).1;
-  zero_is = λ e. rw e zero_digit;
-}

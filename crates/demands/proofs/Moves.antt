@@ -10,7 +10,7 @@ use lib.ListN.{length, get_or}
 use borrow.Author.Tests.{eqb-true, eqb-false, eq-eqb, leb-true, le-leb, not-true}
 use Rattle.folds.proofs.Tests.{which}
 use Rattle.folds.proofs.Loops.{all_at, all_of}
-use Rattle.circuit.specs.Tools.{is_empty}
+use Rattle.circuit.specs.Tools.{is_empty, over}
 use Rattle.circuit.specs.Survey.{front, survey}
 use Rattle.circuit.specs.Run.{move}
 use Rattle.circuit.specs.Promise.{NoFront}
@@ -23,8 +23,7 @@ use Rattle.map.proofs.Laws.{past, no_test, none_failed}
 use Rattle.map.proofs.Facts.{facts, well_formed}
 use Rattle.map.proofs.Answers.{behind_accepted}
 use Rattle.map.proofs.Described.{tested, map_number}
-use Rattle.state.specs.State.{over}
-use Rattle.state.proofs.Over.{over_first, over_rest, over_long}
+use Rattle.circuit.proofs.Over.{over_first, over_rest, over_long}
 use Rattle.state.proofs.Meaning.{behind}
 use Rattle.survey.proofs.Starts.{behind_start, of_start, start_number}
 use Rattle.tape.specs.Tape.{entry_at, entry_kinds_test}

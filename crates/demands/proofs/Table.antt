@@ -15,7 +15,7 @@ use Rattle.survey.specs.Survey.{codes_shown_test, start_tests, survey_tests, sur
 use Rattle.tape.specs.Tape.{entry_at, entries_from, entries, tape_length_test, entry_kinds_test}
 use Rattle.search.specs.Move.{front_test, entry_tests, move_tests, move_by, move_effect}
 use Rattle.search.specs.Run.{tape_tests, run_tests, run_answer, run_ended, run_by, run_effect}
-use Rattle.line.specs.Text.{decimal_in}
+use Rattle.text.specs.Text.{decimal_in}
 use Rattle.line.specs.Line.{input_test, lent, line_of}
 use Rattle.demands.specs.Table.{adder_bytes, map_p9, map_p10, map_p11, P1ToP12}
 

@@ -22,7 +22,7 @@ use Rattle.circuit.specs.declared.Entry.{Entry}
 use Rattle.circuit.specs.Promise.{NotGreedy, option_byte}
 use Rattle.map.specs.Map.{u16_at}
 use Rattle.tape.specs.Tape.{choice_of, entry_at, ChoiceRead, EntryRead, entries_from, entries, entry_kinds_test}
-use Rattle.line.specs.Text.{AreBytes}
+use Rattle.text.specs.Text.{AreBytes}
 use Rattle.demands.specs.Demands.{AreDraws, Way, Plain, tape_of}
 
 -- ---- reading

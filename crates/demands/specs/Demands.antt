@@ -11,17 +11,18 @@ use Rattle.map.specs.Map.{most_gates, gate_count, code_count, code_gate, code_va
 use Rattle.map.specs.Check.{MapAccepts, CheckNumber, CheckAccepts, CheckRefuses, CheckDoes, AcceptedMaps}
 use Rattle.map.specs.Children.{ChildrenDoes}
 use Rattle.state.specs.State.{Satisfies, EvaluateDoes, EvaluateAccepts, EvaluateNumber, EvaluateRefuses, MarkDoes, MarkAccepts, MarkNumber, MarkRefuses}
+use Rattle.export.specs.Export.{ExportDoes, ExportAccepts, ExportNumber, ExportRefuses}
 use Rattle.survey.specs.Survey.{IsStart, SurveyDoes, SurveyAccepts, SurveyNumber, SurveyRefuses}
 use Rattle.tape.specs.Tape.{most_entries, EntryRead, entries}
 use Rattle.search.specs.Move.{MoveDoes, MoveAccepts, MoveNumber, MoveRefuses}
 use Rattle.search.specs.Run.{RunEffect, ending_values, run_effect, Room, RunAccepts, RunNumber, RunRefuses}
-use Rattle.line.specs.Text.{AreBytes}
+use Rattle.text.specs.Text.{AreBytes}
 use Rattle.line.specs.Line.{EveryInput, CutInput}
 
 -- ---- demand 1
 
 -- "A refused call gives the number that document 01 names and leaves all lent bytes untouched; an accepted one leaves what document 01 states."
--- Of each call its number, by document 01's conditions in their order, but for 8, which F-1 took back; which inputs it accepts; what a refused call gives and leaves beside the
+-- Of each call its number, by document 01's conditions in their order, but for 8, which F-1 took back, and Export's by 16 of document 02 behind the map's; which inputs it accepts; what a refused call gives and leaves beside the
 -- number; and what an accepted one does. What Survey, Move and Run do is in demand 2. Of the program which inputs it runs, which it refuses with 0,
 -- and that the bytes that it reads are enough. (The demand's first sentence, on the ends of memory and the end of calls, Rattle asks of every function.)
 pub record Demand1 : Type 0 where
@@ -38,6 +39,10 @@ pub record Demand1 : Type 0 where
   pub mark_accepts : MarkAccepts
   pub mark_refuses : MarkRefuses
   pub mark_does : MarkDoes
+  pub export_number : ExportNumber
+  pub export_accepts : ExportAccepts
+  pub export_refuses : ExportRefuses
+  pub export_does : ExportDoes
   pub survey_number : SurveyNumber
   pub survey_accepts : SurveyAccepts
   pub survey_refuses : SurveyRefuses

@@ -1,5 +1,6 @@
 -- Request F-1 of document 02, 'Codes on inner signals', on bytes: about the definitions that the calls' contracts cite. Assumes nothing.
 use Rattle.std.specs.Prelude.{ℕ, ◌≤◌, ◌<◌, ◌≡◌, true, false, List, length}
+use Rattle.circuit.specs.Tools.{over}
 use Rattle.circuit.specs.Evaluate.{KeepsCodes}
 use Rattle.circuit.specs.Survey.{survey}
 use Rattle.circuit.specs.Run.{drawn, turn}
@@ -7,7 +8,7 @@ use Rattle.circuit.specs.Source001.{DownOptionsAre001, DownOptionsInOrder}
 use Rattle.circuit.specs.Promise.{GreedyOptionsAre, OptionsLeftAre, entry_of_all, run_of_all, AsBefore}
 use Rattle.map.specs.Map.{gate_count, code_count, fan_in, child_at, code_gate, circuit}
 use Rattle.map.specs.Check.{verdict, CheckAccepts, check_effect}
-use Rattle.state.specs.State.{over, Satisfies, evaluate_effect, mark_effect}
+use Rattle.state.specs.State.{Satisfies, evaluate_effect, mark_effect}
 use Rattle.survey.specs.Survey.{survey_effect}
 use Rattle.tape.specs.Tape.{entry_at, entries}
 use Rattle.search.specs.Move.{MoveEffect, move_effect, MoveDoes}

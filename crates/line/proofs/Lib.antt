@@ -1,3 +1,3 @@
-pub mod Writing
 pub mod Rows
 pub mod Lines
+pub mod Fits

@@ -9,6 +9,7 @@ use lib.ListN.{length, take, drop, replicate, length-append, length-drop}
 use lib.Seq.{take_at, take_all, length-take-le, take-append_seam, drop-drop, drop-append_seam}
 use lib.Dec.{leb}
 use borrow.Author.Tests.{leb-true, leb-false, le-leb, lt-leb, eqb-true, eq-eqb}
+use Rattle.circuit.specs.Tools.{over}
 use Rattle.circuit.specs.declared.Refusal.{Refusal}
 use Rattle.circuit.specs.Refusal.{number_of}
 use Rattle.circuit.specs.declared.Outcome.{Outcome}
@@ -132,9 +133,9 @@ module _ (m s tape : List ℕ) where
 
 -- ---- the call
 
-pub prints : (x out text : List ℕ) (n : ℕ) → line_room ≤ length out → text ≡ line_of x → n ≡ length text → line_answer n (text ++ drop n out) ≡ line_effect x out
+pub prints : (x out after : List ℕ) (n : ℕ) → line_room ≤ length out → after ≡ over (line_of x) out → n ≡ length (line_of x) → line_answer n after ≡ line_effect x out
 unfolding line_effect
-prints x out text n h e l = rw (le-leb line_room (length out) h, l, e)
+prints x out after n h m s = rw (le-leb line_room (length out) h, s, m)
 
 pub prints_nothing : (x out : List ℕ) → length out < line_room → line_answer 0 out ≡ line_effect x out
 unfolding line_effect

@@ -3,7 +3,7 @@ use Prim.Native.Nat.{ℕ, zero, suc, ◌+◌, ◌<◌}
 use mathlib.Core.Path.{◌≡◌, refl, sym, ap, ◌∙◌}
 use mathlib.Core.Bool.{true, false}
 use mathlib.Core.Logic.{inl, inr}
-use mathlib.Core.List.{List, [], ◌∷◌, ◌++◌, map, append-nil, append_assoc}
+use mathlib.Core.List.{List, [], ◌∷◌, ◌++◌, map}
 use native.Mathlib.Numerals.{add-one}
 use native.Mathlib.Omega.{arith}
 use lib.ListN.{get_or, take}
@@ -39,28 +39,31 @@ module _ (m ans : List ℕ) where
   below zero = refl
   below (suc n) = rw (below n) (sym (taken_append (up_to n) n))
 
-  pub row_none : (x : List ℕ) → x ≡ x ++ row_below m ans 0
+  pub row_none : row_below m ans 0 ≡ []
   unfolding row_below
-  row_none x = sym (append-nil x)
+  row_none = refl
 
-  -- behind the text y, which has the row below gate g, stands g's digit if it is an input, and else nothing
-  pub row_input : (x y : List ℕ) (g : ℕ) (k : Kind) → k ≡ kind_of (kind_byte m g) → sameb the_type k Input ≡ true → y ≡ x ++ row_below m ans g
-      → y ++ (digit (get_or ans g 0) ∷ []) ≡ x ++ row_below m ans (g + 1)
-  unfolding row_below input_text
-  row_input x y g k e q h =
-      let i : is_input (kind_of (kind_byte m g)) ≡ true = ap is_input (sym e) ∙ sym (same_input k) ∙ q in
-      rw (add-one g, i, h) (append_assoc x (row_below m ans g) (digit (get_or ans g 0) ∷ []))
-
-  pub row_other : (x y : List ℕ) (g : ℕ) (k : Kind) → k ≡ kind_of (kind_byte m g) → sameb the_type k Input ≡ false → y ≡ x ++ row_below m ans g
-      → y ≡ x ++ row_below m ans (g + 1)
-  unfolding row_below input_text
-  row_other x y g k e q h =
-      let i : is_input (kind_of (kind_byte m g)) ≡ false = ap is_input (sym e) ∙ sym (same_input k) ∙ q in
-      rw (add-one g, i, append-nil (row_below m ans g)) h
+  pub row_more : (n : ℕ) → row_below m ans (n + 1) ≡ row_below m ans n ++ input_text m ans n
+  unfolding row_below
+  row_more n = rw (add-one n) refl
 
   pub row_whole : (n : ℕ) → n ≡ gate_count m → row_below m ans n ≡ row_text m ans
   unfolding row_of
   row_whole n e = below n ∙ rw e
+
+  -- a gate of kind k has its digit if it is an input, and else nothing
+  module _ (g : ℕ) (k : Kind) (e : k ≡ kind_of (kind_byte m g)) where
+    pub digit_is : sameb the_type k Input ≡ true → digit (get_or ans g 0) ∷ [] ≡ input_text m ans g
+    unfolding input_text
+    digit_is q =
+        let i : is_input (kind_of (kind_byte m g)) ≡ true = ap is_input (sym e) ∙ sym (same_input k) ∙ q in
+        rw i refl
+
+    pub none_is : sameb the_type k Input ≡ false → [] ≡ input_text m ans g
+    unfolding input_text
+    none_is q =
+        let i : is_input (kind_of (kind_byte m g)) ≡ false = ap is_input (sym e) ∙ sym (same_input k) ∙ q in
+        rw i refl
 
 -- only the gates' bytes of the answer count
 same_below : (m a b : List ℕ) (n : ℕ) → ((g : ℕ) → g < n → get_or a g 0 ≡ get_or b g 0) → row_below m a n ≡ row_below m b n

@@ -1,12 +1,13 @@
 -- Document 01's program: from the bytes of standard input to the line that it prints. What it means is proved in `demands`. Assumes nothing.
 use Rattle.std.specs.Prelude.{ℕ, ◌+◌, ◌-◌, ◌/◌, ◌%◌, ◌<◌, ◌≤◌, ◌≡◌, ◌⊎◌, Bool, true, false, cond, List, ◌∷◌, ◌++◌, map, length, take, drop, replicate, eqb, leb}
 use Rattle.folds.specs.Folds.{◌and◌}
+use Rattle.circuit.specs.Tools.{over}
 use Rattle.circuit.specs.Evaluate.{row_of}
 use Rattle.circuit.specs.Run.{EndingValues}
 use Rattle.map.specs.Map.{most_gates, u16_at, circuit}
-use Rattle.state.specs.State.{over}
 use Rattle.search.specs.Run.{RunEffect, ending_values, run_effect, Room}
-use Rattle.line.specs.Text.{AreBytes, found_word, spent_word, stuck_word, refused_word, blank, line_end, digit, decimal}
+use Rattle.text.specs.Text.{AreBytes, blank, line_end, in_decimal}
+use Rattle.line.specs.Text.{found_word, spent_word, stuck_word, refused_word, digit}
 
 -- the bytes from place a on, up to before place b
 abbrev pub between : ℕ → ℕ → List ℕ → List ℕ
@@ -48,21 +49,21 @@ row_text m ans = map digit (row_of (circuit m) ans)
 
 -- the word, and "moves flips"
 abbrev pub counts_text : List ℕ → ℕ → ℕ → List ℕ
-counts_text word moves flips = word ++ (decimal moves ++ (blank ++ decimal flips))
+counts_text word moves flips = word ++ (in_decimal moves ++ (blank ++ in_decimal flips))
 
 -- "prints a line: `FOUND moves flips row`, `SPENT moves flips front` or `REFUSED number`"
 abbrev pub found_line : ℕ → ℕ → List ℕ → List ℕ → List ℕ
 found_line moves flips m ans = counts_text found_word moves flips ++ (blank ++ (row_text m ans ++ line_end))
 
 abbrev pub spent_line : ℕ → ℕ → ℕ → List ℕ
-spent_line moves flips front = counts_text spent_word moves flips ++ (blank ++ (decimal front ++ line_end))
+spent_line moves flips front = counts_text spent_word moves flips ++ (blank ++ (in_decimal front ++ line_end))
 
 -- F-1: "the program prints `STUCK moves flips`"
 abbrev pub stuck_line : ℕ → ℕ → List ℕ
 stuck_line moves flips = counts_text stuck_word moves flips ++ line_end
 
 abbrev pub refused_line : ℕ → List ℕ
-refused_line number = refused_word ++ (decimal number ++ line_end)
+refused_line number = refused_word ++ (in_decimal number ++ line_end)
 
 -- by what an ending tells, with moves, flips and the answer memory after the run
 abbrev pub report : EndingValues → ℕ → ℕ → List ℕ → List ℕ → List ℕ
@@ -92,11 +93,11 @@ input_of m s tape = length m % 256 ∷ length m / 256 ∷ length s % 256 ∷ len
 -- The line of the run r on three bodies, by its ending, byte for byte: "`FOUND moves flips row`, `SPENT moves flips front` or `REFUSED number`", and, by F-1, `STUCK moves flips`
 pub record LineIs (m s tape : List ℕ) (r : RunEffect) : Type 0 where
   pub found : r.found ≡ true
-      → run_line m s tape ≡ found_word ++ (decimal r.moves ++ (blank ++ (decimal r.flips ++ (blank ++ (row_text m r.answer ++ line_end)))))
+      → run_line m s tape ≡ found_word ++ (in_decimal r.moves ++ (blank ++ (in_decimal r.flips ++ (blank ++ (row_text m r.answer ++ line_end)))))
   pub spent : r.accepted ≡ true → r.found ≡ false → r.stuck ≡ false
-      → run_line m s tape ≡ spent_word ++ (decimal r.moves ++ (blank ++ (decimal r.flips ++ (blank ++ (decimal r.front ++ line_end)))))
-  pub stuck : r.stuck ≡ true → run_line m s tape ≡ stuck_word ++ (decimal r.moves ++ (blank ++ (decimal r.flips ++ line_end)))
-  pub refused : r.accepted ≡ false → run_line m s tape ≡ refused_word ++ (decimal r.number ++ line_end)
+      → run_line m s tape ≡ spent_word ++ (in_decimal r.moves ++ (blank ++ (in_decimal r.flips ++ (blank ++ (in_decimal r.front ++ line_end)))))
+  pub stuck : r.stuck ≡ true → run_line m s tape ≡ stuck_word ++ (in_decimal r.moves ++ (blank ++ (in_decimal r.flips ++ line_end)))
+  pub refused : r.accepted ≡ false → run_line m s tape ≡ refused_word ++ (in_decimal r.number ++ line_end)
 
 abbrev pub LinesAre : Type 0
 LinesAre = (m s tape : List ℕ) → LineIs m s tape (run_effect m s tape lent lent)

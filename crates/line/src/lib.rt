@@ -18,7 +18,7 @@ pub const LINE_ROOM: usize = 1100;
 
 // Writes the line for an input into the first bytes of `out` and returns how many they are. `LINE_ROOM` bytes hold any line: with less it writes nothing and
 // returns 0. (No `Option`: the result is how many bytes were written, and 0 is that too. And no slice of `out`: all of `out` is promised, and memory from which a result borrows has no `out.new`.)
-#[tactic(auto, using(crate::proofs::Lines::prints, crate::proofs::Lines::prints_nothing))]
+#[tactic(auto, using(crate::proofs::Lines::prints, crate::proofs::Lines::prints_nothing, crate::proofs::Fits::line_inside))]
 pub fn line(input: &[u8], out: &mut [u8]) -> usize
     ensures out_after { line_answer result out.new ≡ line_effect input.now out.old }
     ensures upper_bound { result ≤ length out.old }
@@ -26,8 +26,5 @@ pub fn line(input: &[u8], out: &mut [u8]) -> usize
     if out.len() < LINE_ROOM {
         return 0;
     }
-    let text = parts::line_of(input);
-    let size = text.len();
-    out[..size].copy_from_slice(text.as_str().as_bytes());
-    size
+    parts::put_line(input, out)
 }

@@ -1,16 +1,18 @@
-// The parts of an input, and the line of the run on them.
+// The parts of an input, and the line of the run on them, written into memory that holds any line.
 ghost use Rattle.std.specs.Prelude.{◌≡◌, ◌≤◌, IfSome, is_some, length};
-ghost use Rattle.line.specs.Line.{most_input, run_line, map_part, configuration_part, tape_part, input_test, line_of};
+ghost use Rattle.text.specs.Written.{Wrote};
+ghost use Rattle.line.specs.Line.{most_input, run_line, map_part, configuration_part, tape_part, input_test, line_of, line_room};
 
 use super::MOST_INPUT;
-use super::report::{Text, ran, refused};
+use super::report::{put_refused, put_report};
 use map::{MOST_GATES, word};
 use state::Values;
 
-// Runs, with work and answer memory for every map.
-#[tactic(auto, using(crate::proofs::Lines::accepted_line, crate::proofs::Lines::refused_run))]
-fn run(map: &[u8], configuration: &mut [u8], tape: &[u8]) -> Text
-    ensures { result.bytes ≡ run_line map.now configuration.old tape.now }
+// Runs, with work and answer memory for every map, and writes the line.
+#[tactic(auto, using(text::proofs::Written::wrote_as, crate::proofs::Lines::accepted_line, crate::proofs::Lines::refused_run, crate::proofs::Fits::report_fits, crate::proofs::Fits::refused_fits))]
+fn put_run(map: &[u8], configuration: &mut [u8], tape: &[u8], out: &mut [u8]) -> usize
+    requires { line_room ≤ length out.old }
+    ensures { Wrote (run_line map.now configuration.old tape.now) out.old out.new result }
 {
     let mut work = [0u8; MOST_GATES];
     let mut answer = [0u8; MOST_GATES];
@@ -27,21 +29,22 @@ fn run(map: &[u8], configuration: &mut [u8], tape: &[u8]) -> Text
                 map: accepted,
                 bytes: &answer,
             };
-            ran(outcome, values)
+            put_report(outcome, values, out)
         }
-        Err(refusal) => refused(u8::from(refusal)),
+        Err(refusal) => put_refused(u8::from(refusal), out),
     }
 }
 
 // The same on a copy of the configuration, which a run changes.
-fn run_on_copy(map: &[u8], configuration: &[u8], tape: &[u8]) -> Text
-    requires { length configuration.now ≤ most_input }
-    ensures { result.bytes ≡ run_line map.now configuration.now tape.now }
+fn put_run_on_copy(map: &[u8], configuration: &[u8], tape: &[u8], out: &mut [u8]) -> usize
+    requires short { length configuration.now ≤ most_input }
+    requires room { line_room ≤ length out.old }
+    ensures { Wrote (run_line map.now configuration.now tape.now) out.old out.new result }
 {
     let mut space = [0u8; MOST_INPUT];
     let copy = &mut space[..configuration.len()];
     copy.copy_from_slice(configuration);
-    run(map, copy, tape)
+    put_run(map, copy, tape, out)
 }
 
 // The parts of an input.
@@ -76,13 +79,14 @@ fn parts_of(input: &[u8]) -> Option<Parts>
     })
 }
 
-// The line for an input.
-#[tactic(auto, using(crate::proofs::Lines::line_refused, crate::proofs::Lines::line_runs, crate::proofs::Lines::configuration_fits))]
-pub fn line_of(input: &[u8]) -> Text
-    ensures { result.bytes ≡ line_of input.now }
+// Writes the line for an input.
+#[tactic(auto, using(text::proofs::Written::wrote_as, crate::proofs::Fits::refused_fits, crate::proofs::Lines::line_refused, crate::proofs::Lines::line_runs, crate::proofs::Lines::configuration_fits))]
+pub fn put_line(input: &[u8], out: &mut [u8]) -> usize
+    requires { line_room ≤ length out.old }
+    ensures { Wrote (line_of input.now) out.old out.new result }
 {
     let Some(parts) = parts_of(input) else {
-        return refused(0);
+        return put_refused(0, out);
     };
-    run_on_copy(parts.map, parts.configuration, parts.tape)
+    put_run_on_copy(parts.map, parts.configuration, parts.tape, out)
 }

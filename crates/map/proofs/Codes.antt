@@ -2,7 +2,7 @@
 use Prim.Native.Nat.{ℕ, zero, suc, ◌+◌, ◌≤◌, ◌<◌}
 use mathlib.Core.Path.{◌≡◌, refl}
 use mathlib.Core.Bool.{Bool}
-use mathlib.Core.Option.{some}
+use mathlib.Core.Option.{none, some}
 use mathlib.Core.Logic.{inl, inr}
 use mathlib.Core.List.{List}
 use native.Mathlib.Nat.{le_of_suc-le-suc, eq-or-lt_of_le}
@@ -31,3 +31,9 @@ code_found m up (suc n) r l h = elim (eq-or-lt_of_le (le_of_suc-le-suc l)) [
   | inr q ↦ (let s = steps (λ i. code_gate m i) (code_count m) r n up q (omega arith) in
       rw (ne_eqb (code_gate m n) (code_gate m r) (λ e. omega arith)) (code_found m up n r q (omega arith)))
 ]
+
+-- a gate that no record has is uncoded
+pub code_none : (m : List ℕ) (n g : ℕ) → ((r : ℕ) → r < n → ¬ (code_gate m r ≡ g)) → code_among m n g ≡ none
+unfolding code_among
+code_none m zero g h = refl
+code_none m (suc n) g h = rw (ne_eqb (code_gate m n) g (h n (omega arith))) (code_none m n g (λ r l. h r (omega arith)))

@@ -2,6 +2,7 @@
 use Rattle.std.proofs.Common.{ℕ, ◌≡◌, ◌∙◌, sym, List, ◌++◌, drop, length, refl, arith, eq-eqb, ne_eqb, Option, Ok, Err, Some, None, true, false}
 use borrow.Author.Tests.{leb-false}
 use Rattle.std.specs.Option.{IsSome}
+use Rattle.circuit.specs.Tools.{over}
 use Rattle.circuit.specs.declared.Entry.{Entry}
 use Rattle.circuit.specs.declared.Refusal.{Refusal}
 use Rattle.circuit.specs.declared.Refusal.TheVariants.{EmptyFront}
@@ -14,7 +15,6 @@ use Rattle.map.proofs.Answers.{map_refused_by, behind_accepted}
 use Rattle.map.proofs.Laws.{past, stop, no_test}
 use Rattle.marks.specs.Marks.{MarksOf}
 use Rattle.marks.proofs.Marked.{front_none, front_some}
-use Rattle.state.specs.State.{over}
 use Rattle.survey.specs.Survey.{start_tests}
 use Rattle.steps.specs.declared.MoveReport.{MoveReport}
 use Rattle.steps.specs.Steps.{DidEntry}

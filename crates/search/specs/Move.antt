@@ -2,7 +2,7 @@
 use Rattle.std.specs.Prelude.{ℕ, ◌≤◌, ◌≡◌, ◌↔◌, Bool, true, false, cond, not, List, [], ◌∷◌, ◌++◌, length, take, drop, eqb, leb, Result, Ok, Err}
 use Rattle.circuit.specs.declared.Refusal.{Refusal}
 use Rattle.circuit.specs.Refusal.{number_of}
-use Rattle.circuit.specs.Tools.{is_empty}
+use Rattle.circuit.specs.Tools.{is_empty, over}
 use Rattle.circuit.specs.Survey.{front, survey}
 use Rattle.circuit.specs.Evaluate.{KeepsCodes, differ}
 use Rattle.circuit.specs.Run.{entry_turns, move}
@@ -10,7 +10,7 @@ use Rattle.circuit.specs.Source001.{Front, TurnsExactly}
 use Rattle.circuit.specs.Promise.{NoFront, StuckAt, EntryDoes}
 use Rattle.map.specs.Map.{gate_count, circuit}
 use Rattle.map.specs.Check.{first_failed, map_tests, Test, MapNumber}
-use Rattle.state.specs.State.{over, HasRoom}
+use Rattle.state.specs.State.{HasRoom}
 use Rattle.survey.specs.Survey.{start_tests, IsStart, StartNumber}
 use Rattle.steps.specs.declared.MoveReport.{MoveReport}
 use Rattle.tape.specs.Tape.{entry_at, EntryRead, entry_kinds_test, EntryKindAllowed}

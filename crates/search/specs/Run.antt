@@ -1,6 +1,7 @@
 -- Document 01's Run, on bytes, with request F-1. What it means is proved in `demands`. Assumes nothing.
 use Rattle.std.specs.Prelude.{ℕ, ◌≡◌, ◌↔◌, Bool, true, false, cond, List, [], ◌∷◌, ◌++◌, length, eqb, leb}
 use Rattle.folds.specs.Folds.{◌and◌}
+use Rattle.circuit.specs.Tools.{over}
 use Rattle.circuit.specs.declared.Ending.{Ending}
 use Rattle.circuit.specs.declared.Ending.TheVariants.{Found, Spent, Stuck, Refused}
 use Rattle.circuit.specs.declared.Outcome.{Outcome}
@@ -10,7 +11,7 @@ use Rattle.circuit.specs.Survey.{survey}
 use Rattle.circuit.specs.Run.{EndingValues, told, RunResult, run, answer}
 use Rattle.map.specs.Map.{gate_count, circuit}
 use Rattle.map.specs.Check.{first_failed, map_tests, Test, MapNumber}
-use Rattle.state.specs.State.{over, HasRoom}
+use Rattle.state.specs.State.{HasRoom}
 use Rattle.survey.specs.Survey.{start_tests, IsStart, StartNumber}
 use Rattle.tape.specs.Tape.{entries, tape_length_test, entry_kinds_test, LengthAllowed, EntriesAllowed}
 

@@ -1,5 +1,4 @@
 pub mod Filling
-pub mod Over
 pub mod Given
 pub mod Answers
 pub mod Meaning

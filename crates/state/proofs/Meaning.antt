@@ -9,6 +9,7 @@ use lib.ListN.{length, get_or}
 use borrow.Author.Tests.{eqb-true, eqb-false, eq-eqb, leb-true, le-leb}
 use Rattle.folds.proofs.Tests.{which}
 use Rattle.folds.proofs.Loops.{all_of}
+use Rattle.circuit.specs.Tools.{over}
 use Rattle.circuit.specs.Circuit.{Configuration}
 use Rattle.circuit.specs.Evaluate.{inputs_before, Row, evaluate, mark}
 use Rattle.circuit.proofs.Evaluate.{evaluate_is, mark_is}
@@ -18,9 +19,9 @@ use Rattle.map.proofs.Laws.{none_failed, past, no_test, passed_before}
 use Rattle.map.proofs.Facts.{facts, well_formed}
 use Rattle.map.proofs.Answers.{behind_accepted}
 use Rattle.map.proofs.Described.{tested, map_number}
-use Rattle.state.specs.State.{Bits, bits_test, row_tests, configuration_tests, over, evaluate_by, evaluate_effect, EvaluateDoes, EvaluateAccepts, EvaluateNumber, EvaluateRefuses, mark_by, mark_effect, MarkDoes, MarkAccepts, ConfigurationNumber, MarkNumber, MarkRefuses}
+use Rattle.state.specs.State.{Bits, bits_test, row_tests, configuration_tests, evaluate_by, evaluate_effect, EvaluateDoes, EvaluateAccepts, EvaluateNumber, EvaluateRefuses, mark_by, mark_effect, MarkDoes, MarkAccepts, ConfigurationNumber, MarkNumber, MarkRefuses}
 use Rattle.state.proofs.Filling.{bits_of}
-use Rattle.state.proofs.Over.{over_first, over_rest, over_long}
+use Rattle.circuit.proofs.Over.{over_first, over_rest, over_long}
 
 -- ---- tests behind the map's
 

@@ -1,6 +1,7 @@
 -- Document 01's Evaluate and Mark, on bytes. Assumes nothing.
 use Rattle.std.specs.Prelude.{ℕ, ◌≤◌, ◌≡◌, ◌↔◌, Bool, true, false, cond, List, [], ◌∷◌, ◌++◌, length, get_or, take, drop, eqb, leb, Result, Ok, Err}
 use Rattle.folds.specs.Folds.{all_below}
+use Rattle.circuit.specs.Tools.{over}
 use Rattle.circuit.specs.Circuit.{Configuration}
 use Rattle.circuit.specs.Evaluate.{Row, evaluate, mark, Evaluated, Satisfying}
 use Rattle.map.specs.Map.{gate_count, circuit, input_count}
@@ -31,10 +32,6 @@ unfoldable pub configuration_tests : List ℕ → List ℕ → List (ℕ × Bool
 configuration_tests m s = (9, eqb (length s) (gate_count m)) ∷ (10, bits_test s) ∷ []
 
 -- ---- Evaluate
-
--- "Lent output, work and answer memory may be longer than needed; the surplus is never touched.": x, then what of w lies beyond it
-abbrev pub over : List ℕ → List ℕ → List ℕ
-over x w = x ++ drop (length x) w
 
 -- What Evaluate does: whether the call is accepted and else its number, and the output memory after the call
 pub record EvaluateEffect : Type 0 where

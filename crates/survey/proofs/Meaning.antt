@@ -9,6 +9,7 @@ use lib.Dec.{eqb, leb}
 use lib.ListN.{length, get_or-append}
 use borrow.Author.Tests.{eqb-true, eqb-false, eq-eqb, leb-true, le-leb}
 use Rattle.folds.proofs.Tests.{which}
+use Rattle.circuit.specs.Tools.{over}
 use Rattle.circuit.specs.Survey.{survey, front_size, interest_size}
 use Rattle.circuit.proofs.Survey.{survey_is}
 use Rattle.map.specs.Map.{gate_count, circuit}
@@ -17,8 +18,7 @@ use Rattle.map.proofs.Laws.{past, no_test, none_failed, passed_before}
 use Rattle.map.proofs.Facts.{facts, well_formed}
 use Rattle.map.proofs.Answers.{behind_accepted}
 use Rattle.map.proofs.Described.{tested, map_number}
-use Rattle.state.specs.State.{over}
-use Rattle.state.proofs.Over.{over_rest, over_long}
+use Rattle.circuit.proofs.Over.{over_rest, over_long}
 use Rattle.state.proofs.Meaning.{behind}
 use Rattle.survey.specs.Survey.{start_tests, survey_tests, survey_by, survey_effect, SurveyDoes, SurveyAccepts, SurveyNumber, SurveyRefuses}
 use Rattle.survey.proofs.Starts.{behind_start, start_of, of_start, start_number}

@@ -3,14 +3,14 @@ use Rattle.std.specs.Prelude.{ℕ, ◌+◌, ◌*◌, ◌<◌, ◌≡◌, ◌↔�
 use Rattle.folds.specs.Folds.{all_below}
 use Rattle.circuit.specs.declared.Refusal.{Refusal}
 use Rattle.circuit.specs.Refusal.{number_of}
-use Rattle.circuit.specs.Tools.{byte}
+use Rattle.circuit.specs.Tools.{byte, over}
 use Rattle.circuit.specs.Circuit.{on}
 use Rattle.circuit.specs.Evaluate.{shows_code, KeepsCodes}
 use Rattle.circuit.specs.Survey.{survey, front_size, interest_size}
 use Rattle.circuit.specs.Source001.{Cone, Front, Interesting, Size}
 use Rattle.map.specs.Map.{gate_count, code_count, code_gate, code_value, circuit}
 use Rattle.map.specs.Check.{first_failed, map_tests, verdict, Test, MapNumber}
-use Rattle.state.specs.State.{configuration_tests, ConfigurationNumber, over, HasRoom}
+use Rattle.state.specs.State.{configuration_tests, ConfigurationNumber, HasRoom}
 use Rattle.survey.specs.declared.Sizes.{Sizes}
 
 -- ---- the tests

@@ -5,7 +5,7 @@ use mathlib.Core.List.{List}
 use native.Mathlib.Omega.{arith}
 use lib.ListN.{length, take, drop, length-append, length-drop}
 use lib.Seq.{take_at, drop_at}
-use Rattle.state.specs.State.{over}
+use Rattle.circuit.specs.Tools.{over}
 
 module _ (x w : List ℕ) (n : ℕ) (l : length x ≡ n) where
   pub over_first : take n (over x w) ≡ x

@@ -1,0 +1,3 @@
+pub mod Texts
+pub mod Lengths
+pub mod Answers
