@@ -209,6 +209,7 @@ fn fixed_covers_every_number_for_every_op() {
     assert_eq!(of(b'e'), without_8(1..=10).into_iter().chain([14]).collect());
     assert_eq!(of(b'm'), without_8(1..=10));
     assert_eq!(of(b's'), without_8(1..=11).into_iter().chain([14]).collect());
+    assert_eq!(of(b'x'), (1..=7).chain([16]).collect());
     assert_eq!(of(b'v'), without_8(1..=15));
     assert_eq!(of(b'r'), without_8(1..=14));
     assert_eq!(of(b'p'), without_8(0..=13));
@@ -219,8 +220,8 @@ fn random_covers_every_number() {
     let cases = random(1, 1200);
     assert!(cases.len() >= 960, "only {} cases fit", cases.len());
     let lines: Vec<String> = cases.iter().map(answer).collect();
-    assert_eq!(numbers(lines.iter()), without_8(0..=15));
-    for word in ["OK ", "DONE ", "YES", "NO", "CHILDREN ", "SIZES ", "MOVED ", "FOUND ", "SPENT ", "STUCK "] {
+    assert_eq!(numbers(lines.iter()), without_8(0..=16));
+    for word in ["OK ", "DONE ", "YES", "NO", "CHILDREN ", "SIZES ", "TEXT ", "MOVED ", "FOUND ", "SPENT ", "STUCK "] {
         let count = lines.iter().filter(|line| line.starts_with(word)).count();
         assert!(count >= 15, "{word}: {count}");
     }
@@ -259,6 +260,30 @@ fn random_surveys_are_not_bare() {
     }
     // The front is in the cone and interesting, so no other byte can come.
     assert_eq!((with_byte[2], with_byte[3], with_byte[6]), (0, 0, 0));
+}
+
+/// The exports among random cases meet every number, texts with and without
+/// surplus, memories one byte short, and every kind.
+#[test]
+fn random_exports_are_not_bare() {
+    let exports: Vec<Case> = (0..4).flat_map(|seed| random(seed, 900)).filter(|case| case.op == b'x').collect();
+    let lines: Vec<String> = exports.iter().map(answer).collect();
+    assert_eq!(numbers(lines.iter()), (1..=7).chain([16]).collect());
+    let (mut exact, mut surplus, mut one_short) = (0, 0, 0);
+    let mut kinds = [0; 6];
+    for case in &exports {
+        if let Ok(text) = text(&case.map) {
+            exact += (case.room == text.len()) as u32;
+            surplus += (case.room > text.len()) as u32;
+            one_short += (case.room + 1 == text.len()) as u32;
+            for gate in 0..check(&case.map).unwrap().gates as usize {
+                kinds[case.map[12 + 4 * gate] as usize] += (case.room >= text.len()) as u32;
+            }
+        }
+    }
+    println!("{} exports: {exact} exact, {surplus} with surplus, {one_short} one short, kinds {kinds:?}", exports.len());
+    assert!(exact >= 30 && surplus >= 15 && one_short >= 5);
+    assert!(kinds.iter().all(|count| *count >= 30));
 }
 
 /// The outcome of a move case with another kind and option.
@@ -334,7 +359,7 @@ impl Met {
 /// all sorts, and gates without an option left, coded or not.
 #[test]
 fn random_moves_are_not_bare() {
-    let moves: Vec<Case> = (0..12)
+    let moves: Vec<Case> = (0..20)
         .flat_map(|seed| random(seed, 800))
         .filter(|case| case.op == b'v')
         .collect();

@@ -1,7 +1,8 @@
-//! The independent engine: check, children, evaluate, mark, survey, move, run
-//! and the program, written straight from document 01 and from requests F-1 and
-//! F-3 of document 02, which are named where they are quoted. (The place of an
-//! empty stretch of children, which they leave open, is the C header's.)
+//! The independent engine: check, children, evaluate, mark, survey, move, run,
+//! export and the program, written straight from document 01 and from requests
+//! F-1, F-3 and F-4 of document 02, which are named where they are quoted. (The
+//! place of an empty stretch of children, which they leave open, is the C
+//! header's.)
 //!
 //! It is slow and plain on purpose. Every offset, count and length is a whole
 //! number (u64) that cannot wrap, and every numbered test is a function of its
@@ -407,6 +408,126 @@ pub fn mark(map: &[u8], configuration: &[u8]) -> Result<bool, u8> {
         }
     }
     Ok(true)
+}
+
+/// F-4: "variable number = gate number + 1".
+fn variable(gate: usize) -> i64 {
+    gate as i64 + 1
+}
+
+/// A clause: its literals in the order in which they are written. A literal is
+/// a variable, plain or negated, and negation is a minus.
+type Clause = Vec<i64>;
+
+/// F-4: "A clause names the gate first, then children ascending".
+fn clause(gate: i64, children: &[i64]) -> Clause {
+    [&[gate], children].concat()
+}
+
+/// The same literals with the other signs.
+fn negated(literals: &[i64]) -> Vec<i64> {
+    literals.iter().map(|literal| -literal).collect()
+}
+
+/// F-3's pairs of a voter's children: "first-second, first-third, second-third".
+fn pairs_of(children: &[i64]) -> Vec<Vec<i64>> {
+    let (first, second, third) = (children[0], children[1], children[2]);
+    vec![vec![first, second], vec![first, third], vec![second, third]]
+}
+
+/// F-4: "each gate's standard Tseitin clauses", where "those negating the gate
+/// come first, each sign by child or F-3's pairs, XOR's with the first child plain
+/// before the other." and "For a voter they are the six of two literals of
+/// children and one of the gate." An input has no children that give its value,
+/// and so no clause.
+fn clauses_of(number: usize, gate: &Gate) -> Vec<Clause> {
+    let g = variable(number);
+    let all: Vec<i64> = gate.children.iter().map(|child| variable(*child)).collect();
+    let mut list = Vec::new();
+    match gate.kind {
+        INPUT => {}
+        NOT => {
+            list.push(clause(-g, &[-all[0]]));
+            list.push(clause(g, &[all[0]]));
+        }
+        AND => {
+            for child in &all {
+                list.push(clause(-g, &[*child]));
+            }
+            list.push(clause(g, &negated(&all)));
+        }
+        OR => {
+            list.push(clause(-g, &all));
+            for child in &all {
+                list.push(clause(g, &[-child]));
+            }
+        }
+        XOR => {
+            let (a, b) = (all[0], all[1]);
+            list.push(clause(-g, &[a, b]));
+            list.push(clause(-g, &[-a, -b]));
+            list.push(clause(g, &[a, -b]));
+            list.push(clause(g, &[-a, b]));
+        }
+        VOTER => {
+            for pair in pairs_of(&all) {
+                list.push(clause(-g, &pair));
+            }
+            for pair in pairs_of(&all) {
+                list.push(clause(g, &negated(&pair)));
+            }
+        }
+        _ => panic!("test 4 declines such a kind"),
+    }
+    list
+}
+
+/// F-4: "each gate's standard Tseitin clauses in gate order, then a unit clause
+/// per code". Codes ascend by gate.
+fn all_clauses(circuit: &Circuit) -> Vec<Clause> {
+    let mut list = Vec::new();
+    for (number, gate) in circuit.gates.iter().enumerate() {
+        list.extend(clauses_of(number, gate));
+    }
+    for (gate, value) in &circuit.codes {
+        let unit = if *value == 1 { variable(*gate) } else { -variable(*gate) };
+        list.push(vec![unit]);
+    }
+    list
+}
+
+/// F-4: "a map as DIMACS CNF", "with the `p cnf` line before them. Items stand one
+/// blank apart, each clause is one line with 0 last, a line feed ends each line,
+/// and no other line is written." The `p cnf` line has the count of variables,
+/// which is that of gates, and the count of clauses. The text that Export writes
+/// where it is lent enough memory, or the number of the map's test that fails.
+pub fn text(map: &[u8]) -> Result<String, u8> {
+    check(map)?;
+    let circuit = circuit_of(map);
+    let clauses = all_clauses(&circuit);
+    let mut text = format!("p cnf {} {}\n", circuit.gates.len(), clauses.len());
+    for clause in clauses {
+        for literal in clause {
+            text.push_str(&format!("{literal} "));
+        }
+        text.push_str("0\n");
+    }
+    Ok(text)
+}
+
+/// F-4: "The call returns the text's length." and "A text memory shorter than the
+/// text gives 16 in the place of test 14": behind the map's tests, with no other
+/// between. A declined call "leaves all lent memory untouched", and of longer
+/// memory "the surplus is never touched."
+pub fn export(map: &[u8], memory: &mut [u8]) -> Result<u64, u8> {
+    let text = text(map)?;
+    if memory.len() < text.len() {
+        return Err(16);
+    }
+    for (place, byte) in text.bytes().enumerate() {
+        memory[place] = byte;
+    }
+    Ok(text.len() as u64)
 }
 
 /// "11. For Survey, Move and Run: a coded gate's value isn't its code."

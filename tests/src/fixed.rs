@@ -3,6 +3,7 @@
 mod check;
 mod circuits;
 mod evaluate;
+mod export;
 mod fronts;
 mod inner_codes;
 mod longer_runs;
@@ -65,7 +66,14 @@ fn sizes(front: usize, interest: usize, bytes: &str, surplus: usize) -> String {
     format!("SIZES {front} {interest} {}", memory(bytes, surplus))
 }
 
-/// The expected line of a refused evaluate or survey: the memory is untouched.
+/// The expected line of an accepted export: the text's length, its bytes, then the
+/// surplus, untouched.
+fn written(length: usize, text: &str, surplus: usize) -> String {
+    format!("TEXT {length} {}{}", hex(text.as_bytes()), "aa".repeat(surplus))
+}
+
+/// The expected line of a refused evaluate, survey or export: the memory is
+/// untouched.
 fn declined(number: u8, room: usize) -> String {
     if room == 0 {
         format!("REFUSED {number}")
@@ -201,6 +209,22 @@ impl List {
         self.survey(name, map, &configuration, configuration.len(), &line);
     }
 
+    fn export(&mut self, name: &str, map: &[u8], room: usize, expected: &str) {
+        let case = Case { room, ..Case::plain(b'x', map, &[]) };
+        self.add(&format!("export {name}"), case, expected);
+    }
+
+    /// An accepted export into memory of exactly the text's length, which is
+    /// counted by hand like the text.
+    fn exported(&mut self, name: &str, map: &[u8], length: usize, text: &str) {
+        self.export(name, map, length, &written(length, text, 0));
+    }
+
+    /// A refused export; the name says the number too.
+    fn unwritten(&mut self, name: &str, number: u8, map: &[u8], room: usize) {
+        self.export(name, map, room, &declined(number, room));
+    }
+
     fn make_move(&mut self, name: &str, map: &[u8], configuration: &[u8], entry: &[u8], room: usize, expected: &str) {
         let case = Case { room, tape: entry.to_vec(), ..Case::plain(b'v', map, configuration) };
         self.add(&format!("move {name}"), case, expected);
@@ -308,6 +332,9 @@ pub fn fixed() -> Vec<Named> {
         survey::large,
         survey::refused,
         survey::precedence,
+        export::export,
+        export::refused,
+        export::precedence,
         moves::bench,
         moves::kinds,
         moves::greedy_choices,

@@ -13,7 +13,7 @@ pub const ROOM_LIMIT: usize = 2_048;
 /// "Tape length times `times` is at most 66,000, and so is the whole input of
 /// 'p'."
 pub const LENT_LIMIT: usize = 66_000;
-/// "The memories of 'e', 's', 'v' and 'r' are `room` and `answer` bytes, each
+/// "The memories of 'e', 's', 'x', 'v' and 'r' are `room` and `answer` bytes, each
 /// 170 (0xAA) before the call."
 pub const PATTERN: u8 = 170;
 
@@ -109,6 +109,7 @@ impl Case {
             b'c' => self.body.is_empty() && self.room == 0,
             b'k' => self.body.len() == 2 && self.room == 0,
             b'e' | b's' | b'v' => self.room <= ROOM_LIMIT,
+            b'x' => self.body.is_empty() && self.room <= ROOM_LIMIT,
             b'm' => self.room == 0,
             b'r' => self.room <= ROOM_LIMIT && self.answer <= ROOM_LIMIT && lent <= LENT_LIMIT,
             b'p' => self.room == 0 && self.answer == 0 && self.map.len() + self.body.len() + lent <= LENT_LIMIT,
@@ -257,6 +258,10 @@ pub fn answer(case: &Case) -> String {
             let outcome = engine::survey(&case.map, &case.body, &mut memory);
             let sizes = |(front, interest)| format!("SIZES {front} {interest}");
             with_memory(outcome.map_or_else(refused, sizes), &memory)
+        }
+        b'x' => {
+            let outcome = engine::export(&case.map, &mut memory);
+            with_memory(outcome.map_or_else(refused, |length| format!("TEXT {length}")), &memory)
         }
         b'v' => move_line(case),
         b'r' => run_line(case),

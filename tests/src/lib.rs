@@ -1,6 +1,7 @@
-//! The independent engine, written from documents 00 and 01 and requests F-1 and F-3 of document 02, and what makes cases for it and for the proved one.
+//! The independent engine, written from documents 00 and 01 and requests F-1, F-3 and F-4 of document 02, and what makes cases for it and for the proved one.
 
 pub mod dice;
+pub mod dimacs;
 pub mod engine;
 pub mod fixed;
 pub mod frame;
@@ -12,6 +13,8 @@ pub mod reading;
 
 #[cfg(test)]
 mod call_tests;
+#[cfg(test)]
+mod export_tests;
 #[cfg(test)]
 mod option_tests;
 #[cfg(test)]

@@ -3,12 +3,13 @@
 use crate::dice::Dice;
 use crate::engine::{self, AND, DOWN, GREEDY, INPUT, OR, UP, VOTER};
 use crate::fixed;
-use crate::frame::{Case, RANDOM_LIMIT};
+use crate::frame::{Case, RANDOM_LIMIT, ROOM_LIMIT};
 use crate::maps::{break_code, damage_body, damage_bytes, damage_draft, keep_codes, near, random_draft, Draft};
 
 /// A draft for an op. A survey, move or run without codes or of inputs alone
 /// shows little: of those drafts three in four (surveys) or nine in ten (moves
-/// and runs) are drawn again.
+/// and runs) are drawn again; and for an export seven in eight of those whose text
+/// is longer than a case's memory.
 fn draft_for(dice: &mut Dice, op: u8) -> (Draft, Vec<u8>, Vec<u8>) {
     loop {
         let drawn = random_draft(dice);
@@ -16,6 +17,7 @@ fn draft_for(dice: &mut Dice, op: u8) -> (Draft, Vec<u8>, Vec<u8>) {
         let again = match op {
             b's' => bare && !dice.one_in(4),
             b'v' | b'r' | b'p' => bare && !dice.one_in(10),
+            b'x' => text_length(&drawn.0.bytes()) > ROOM_LIMIT && !dice.one_in(8),
             _ => false,
         };
         if !again {
@@ -25,14 +27,20 @@ fn draft_for(dice: &mut Dice, op: u8) -> (Draft, Vec<u8>, Vec<u8>) {
 }
 
 /// The length of an output memory: mostly exact, else short or with surplus.
-fn random_room(dice: &mut Dice, gates: usize) -> usize {
+/// `needed` is the gate count, or the length of the text that is exported.
+fn random_room(dice: &mut Dice, needed: usize) -> usize {
     match dice.below(10) {
-        0 => gates - 1,
-        1 => dice.below(gates + 1),
-        2 => gates + 1 + dice.below(40),
-        3 => gates + 1,
-        _ => gates,
+        0 => needed - 1,
+        1 => dice.below(needed + 1),
+        2 => needed + 1 + dice.below(40),
+        3 => needed + 1,
+        _ => needed,
     }
+}
+
+/// How long a map's text is. Only asked for maps that Check accepts.
+fn text_length(map: &[u8]) -> usize {
+    engine::text(map).expect("a draft is a map").len()
 }
 
 /// A configuration to survey or move: one that obeys every gate with a few gates
@@ -288,7 +296,7 @@ fn random_map(dice: &mut Dice, op: u8, draft: &mut Draft) -> Vec<u8> {
     let gates = draft.gates.len();
     let children = draft.gates.iter().map(|(_, children)| children.len()).sum();
     let whole = match op {
-        b's' => 70,
+        b's' | b'x' => 70,
         b'v' => 75,
         b'r' | b'p' => 92,
         _ => 55,
@@ -304,9 +312,9 @@ fn random_map(dice: &mut Dice, op: u8, draft: &mut Draft) -> Vec<u8> {
     }
 }
 
-/// The ops of random cases; of 42 surveys are five, moves eight, runs ten and
-/// inputs of the program five.
-const OPS: &[u8; 42] = b"ccckkkkeeemmmmsssssvvvvvvvvrrrrrrrrrrppppp";
+/// The ops of random cases; of 45 surveys are five, exports three, moves eight,
+/// runs ten and inputs of the program five.
+const OPS: &[u8; 45] = b"ccckkkkeeemmmmsssssxxxvvvvvvvvrrrrrrrrrrppppp";
 
 /// Children's gate number: mostly a gate of the map.
 fn random_gate_number(dice: &mut Dice, gates: usize) -> u16 {
@@ -361,6 +369,7 @@ fn random_case(dice: &mut Dice) -> Case {
     }
     let (mut draft, row, configuration) = draft_for(dice, op);
     let (gates, inputs) = (draft.gates.len(), draft.inputs());
+    let whole = draft.bytes();
     let map = random_map(dice, op, &mut draft);
     let mut case = Case::plain(op, &map, &[]);
     match op {
@@ -375,6 +384,7 @@ fn random_case(dice: &mut Dice) -> Case {
             let body = random_configuration(dice, &draft, configuration);
             case.body = spoilt(dice, &draft, body, 8);
         }
+        b'x' => case.room = random_room(dice, text_length(&whole)).min(ROOM_LIMIT),
         b'v' => {
             case.room = if dice.one_in(2) { gates } else { random_room(dice, gates) };
             case.tape = random_entry(dice);

@@ -477,7 +477,7 @@ fn random_draws_can_find_in_time() {
 /// The runs among random cases meet every number and end in all sorts of places.
 #[test]
 fn random_runs_are_not_bare() {
-    let cases = random_runs(0..14);
+    let cases = random_runs(0..20);
     let (mut at_once, mut midway, mut at_the_end, mut spent, mut long, mut refused) = (0, 0, 0, 0, 0, BTreeSet::new());
     let (mut fronts, mut most, mut stuck, mut stuck_later) = (0, 0, 0, 0);
     for case in &cases {

@@ -9,13 +9,14 @@ pub enum Kind {
     Children,
     Evaluate,
     Mark,
+    Export,
     Survey,
     Move,
     Run,
 }
 
-pub const KINDS: [Kind; 7] =
-    [Kind::Check, Kind::Children, Kind::Evaluate, Kind::Mark, Kind::Survey, Kind::Move, Kind::Run];
+pub const KINDS: [Kind; 8] =
+    [Kind::Check, Kind::Children, Kind::Evaluate, Kind::Mark, Kind::Export, Kind::Survey, Kind::Move, Kind::Run];
 
 impl Kind {
     pub fn name(self) -> &'static str {
@@ -24,6 +25,7 @@ impl Kind {
             Kind::Children => "children",
             Kind::Evaluate => "evaluate",
             Kind::Mark => "mark",
+            Kind::Export => "export",
             Kind::Survey => "survey",
             Kind::Move => "move",
             Kind::Run => "run",
@@ -35,13 +37,13 @@ impl Kind {
         match self {
             Kind::Check | Kind::Run => 4,
             Kind::Children | Kind::Survey | Kind::Move => 2,
-            Kind::Mark => 1,
+            Kind::Mark | Kind::Export => 1,
             Kind::Evaluate => 0,
         }
     }
 
     pub fn has_body(self) -> bool {
-        !matches!(self, Kind::Check | Kind::Children)
+        !matches!(self, Kind::Check | Kind::Children | Kind::Export)
     }
 
     pub fn has_tape(self) -> bool {
@@ -49,7 +51,7 @@ impl Kind {
     }
 
     pub fn has_memory(self) -> bool {
-        matches!(self, Kind::Evaluate | Kind::Survey | Kind::Move | Kind::Run)
+        matches!(self, Kind::Evaluate | Kind::Export | Kind::Survey | Kind::Move | Kind::Run)
     }
 
     /// Whether the call may write the row or configuration.
@@ -69,7 +71,7 @@ pub struct Call {
     pub body: Vec<u8>,
     /// The tape, or Move's entry.
     pub tape: Vec<u8>,
-    /// Output or work memory as it is before the call.
+    /// Output, text or work memory as it is before the call.
     pub memory: Vec<u8>,
     /// Run's answer memory as it is before the call.
     pub answer: Vec<u8>,

@@ -1,7 +1,7 @@
 //! Damaged inputs: every number, every pair of failing tests, and random damage.
 
 use crate::call::{Call, Kind, KINDS};
-use crate::dress::dressed;
+use crate::dress::{dressed, needed};
 use crate::engines::Told;
 use crate::failing::{failing, never_alone, never_both, numbers_of};
 use crate::harness::Harness;
@@ -15,9 +15,9 @@ type Tried = Result<(), String>;
 
 /// How often a call failed test a first and test b too; on the diagonal, a at all.
 struct Counters {
-    all: Vec<[[u64; 16]; 16]>,
+    all: Vec<[[u64; 17]; 17]>,
     /// The same for inputs that fail no third test.
-    alone: Vec<[[u64; 16]; 16]>,
+    alone: Vec<[[u64; 17]; 17]>,
 }
 
 pub struct Damaged<'a> {
@@ -28,7 +28,8 @@ pub struct Damaged<'a> {
 
 /// Every pair some times, then `n` calls with random damage, then the account.
 pub fn damaged(harness: &mut Harness, seed: u64, n: usize) -> Result<String, String> {
-    let counters = Counters { all: vec![[[0; 16]; 16]; 7], alone: vec![[[0; 16]; 16]; 7] };
+    let none = vec![[[0; 17]; 17]; KINDS.len()];
+    let counters = Counters { all: none.clone(), alone: none };
     let mut damaged = Damaged { harness, dice: Dice(seed), counters };
     damaged.singles_and_pairs()?;
     damaged.contents()?;
@@ -183,6 +184,18 @@ fn wrong_entry(dice: &mut Dice, parts: &mut Parts) {
     parts.tape[4 * dice.below(entries) + 2] = 3 + dice.byte() % 253;
 }
 
+/// Export's memory once the map stands: as long as the text or longer, or, for the fault of 16, shorter. Where the map is refused shorter than any text.
+fn text_room(dice: &mut Dice, map: &[u8], short: bool) -> usize {
+    let length = needed(Kind::Export, map, 10);
+    match (short, dice.below(3)) {
+        (true, 0) => length - 1,
+        (true, 1) => 0,
+        (true, _) => dice.below(length),
+        (false, 0) => length + 1 + dice.below(40),
+        (false, _) => length,
+    }
+}
+
 fn short_memory(dice: &mut Dice, parts: &mut Parts) {
     let less = [parts.gates.len() - 1, 0][dice.below(2)];
     match parts.kind {
@@ -210,6 +223,8 @@ fn put_fault(dice: &mut Dice, parts: &mut Parts, number: usize) {
         12 => wrong_tape(dice, parts),
         13 => wrong_entry(dice, parts),
         14 => short_memory(dice, parts),
+        // 16 is put in once the map stands (`text_room`).
+        16 => {}
         _ => empty_front(parts),
     }
 }
@@ -251,19 +266,23 @@ fn with_faults(dice: &mut Dice, kind: Kind, faults: &[usize]) -> Call {
         call.body = parts.body;
     }
     call.tape = parts.tape;
-    dressed(dice, call, parts.rooms)
+    let rooms = match kind {
+        Kind::Export => (text_room(dice, &call.map, faults.contains(&16)), 0),
+        _ => parts.rooms,
+    };
+    dressed(dice, call, rooms)
 }
 
 /// A call of any kind with up to four faults.
 pub fn with_some_faults(dice: &mut Dice) -> Call {
-    let kind = KINDS[dice.below(7)];
+    let kind = KINDS[dice.below(KINDS.len())];
     let numbers = numbers_of(kind);
     let count = 1 + dice.below(4);
     let faults: Vec<usize> = (0..count).map(|_| numbers[dice.below(numbers.len())]).collect();
     with_faults(dice, kind, &faults)
 }
 
-/// A call of the kind on this map, whatever it is; the rest fits the gate count that it says.
+/// A call of the kind on this map, whatever it is; the rest fits the gate count that it says, and Export's memory the text.
 pub fn call_on(dice: &mut Dice, kind: Kind, map: &[u8]) -> Call {
     let gates = if map.len() < 4 { 0 } else { map[2] as usize + 256 * map[3] as usize };
     let mut call = Call { gate: dice.below(gates + 1), ..Call::new(kind, map) };
@@ -273,7 +292,7 @@ pub fn call_on(dice: &mut Dice, kind: Kind, map: &[u8]) -> Call {
     if kind.has_tape() {
         call.tape = vec![0, 0, DOWN, 0];
     }
-    dressed(dice, call, (gates, gates))
+    dressed(dice, call, (needed(kind, map, gates), gates))
 }
 
 impl Damaged<'_> {

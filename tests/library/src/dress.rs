@@ -3,6 +3,7 @@
 use crate::call::{Call, Kind};
 use crate::lend::Way;
 use peeriewick_tests::dice::Dice;
+use peeriewick_tests::engine;
 
 pub fn random_bytes(dice: &mut Dice, length: usize) -> Vec<u8> {
     let mut bytes = Vec::with_capacity(length + 8);
@@ -45,20 +46,29 @@ pub fn dressed(dice: &mut Dice, call: Call, rooms: (usize, usize)) -> Call {
     Call { memory, answer, numbers, way: random_way(dice), null: dice.one_in(2), ..call }
 }
 
-/// A length that holds `gates` bytes, mostly exactly.
-pub fn enough(dice: &mut Dice, gates: usize) -> usize {
-    match dice.below(4) {
-        0 => gates + 1 + dice.below(40),
+/// How many bytes of output, text or work memory a call of the kind on this map needs: one for each of so many gates, or the text's length. For a map that is
+/// refused Export needs none, and gets the gate count too.
+pub fn needed(kind: Kind, map: &[u8], gates: usize) -> usize {
+    match kind {
+        Kind::Export => engine::text(map).map_or(gates, |text| text.len()),
         _ => gates,
     }
 }
 
+/// A length that holds `needed` bytes, mostly exactly.
+pub fn enough(dice: &mut Dice, needed: usize) -> usize {
+    match dice.below(4) {
+        0 => needed + 1 + dice.below(40),
+        _ => needed,
+    }
+}
+
 /// A length that needn't hold them, one time in twelve.
-pub fn any_room(dice: &mut Dice, gates: usize) -> usize {
+pub fn any_room(dice: &mut Dice, needed: usize) -> usize {
     match dice.below(36) {
         0 => 0,
-        1 => gates - 1,
-        2 => dice.below(gates),
-        _ => enough(dice, gates),
+        1 => needed - 1,
+        2 => dice.below(needed),
+        _ => enough(dice, needed),
     }
 }

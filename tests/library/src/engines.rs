@@ -52,6 +52,7 @@ fn make(call: &Call, l: &Lending) -> u8 {
             }
             Kind::Evaluate => raw::peeriewick_evaluate(map, size, body, length, memory, room),
             Kind::Mark => raw::peeriewick_mark(map, size, body, length, numbers, count),
+            Kind::Export => raw::peeriewick_export(map, size, memory, room, numbers, count),
             Kind::Survey => raw::peeriewick_survey(map, size, body, length, memory, room, numbers, count),
             Kind::Move => {
                 let (entry, four) = (l.tape.pointer, l.tape.length);
@@ -119,6 +120,7 @@ fn tell(call: &mut Call) -> Told {
         Kind::Children => told(Ok(place_of(engine::children(map, call.gate), map))),
         Kind::Evaluate => told(engine::evaluate(map, body, memory).map(|()| vec![])),
         Kind::Mark => told(engine::mark(map, body).map(|yes| vec![yes as usize])),
+        Kind::Export => told(engine::export(map, memory).map(|length| whole(&[length]))),
         Kind::Survey => told(engine::survey(map, body, memory).map(|(front, interest)| whole(&[front, interest]))),
         Kind::Move => {
             told(engine::make_move(map, body, &call.tape, memory).map(|(gate, turned)| whole(&[gate, turned])))
@@ -154,6 +156,7 @@ fn tell_wrapped(call: &mut Call) -> Told {
         Kind::Children => Ok(place_of(peeriewick::children(map, call.gate), map)),
         Kind::Evaluate => peeriewick::evaluate(map, body, memory).map(|()| vec![]),
         Kind::Mark => peeriewick::mark(map, body).map(|yes| vec![yes as usize]),
+        Kind::Export => peeriewick::export(map, memory).map(|length| vec![length]),
         Kind::Survey => peeriewick::survey(map, body, memory).map(|sizes| vec![sizes.front, sizes.interest]),
         Kind::Move => peeriewick::make_move(map, body, &call.tape, memory).map(|turn| vec![turn.gate, turn.turned]),
         Kind::Run => peeriewick::run(map, body, &call.tape, memory, &mut call.answer).map(|ran| match ran.ending {

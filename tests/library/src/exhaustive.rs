@@ -1,7 +1,7 @@
 //! Every small map, with every start, through every call.
 
 use crate::call::{Call, Kind, KINDS};
-use crate::dress::{dressed, enough};
+use crate::dress::{dressed, enough, needed};
 use crate::engines::Told;
 use crate::harness::Harness;
 use peeriewick_tests::dice::Dice;
@@ -62,16 +62,18 @@ fn tapes(entries: &[[u8; 4]]) -> Vec<Vec<u8>> {
 }
 
 impl Exhaustive<'_> {
-    /// With memories that are long enough for `n` gates.
+    /// With memories that are long enough for `n` gates, or for the text.
     fn call(&mut self, call: Call, n: u16) -> Result<Told, String> {
-        let rooms = (enough(&mut self.dice, n as usize), enough(&mut self.dice, n as usize));
+        let needed = needed(call.kind, &call.map, n as usize);
+        let rooms = (enough(&mut self.dice, needed), enough(&mut self.dice, n as usize));
         let call = dressed(&mut self.dice, call, rooms);
         self.harness.compare(&call)
     }
 
-    /// Check, children of every gate and past the end, evaluate on every row, mark on every configuration.
+    /// Check, export, children of every gate and past the end, evaluate on every row, mark on every configuration.
     fn state_calls(&mut self, map: &[u8], n: u16) -> Tried {
         self.call(Call::new(Kind::Check, map), n)?;
+        self.exports(map)?;
         let past = [65_535, 65_536, 1 << 16 | 1, 1 << 32, 1 << 32 | 2, 1 << 63, usize::MAX];
         for gate in (0..n as usize + 3).chain(past) {
             self.call(Call { gate, ..Call::new(Kind::Children, map) }, n)?;
@@ -84,6 +86,19 @@ impl Exhaustive<'_> {
             self.call(Call::new(Kind::Mark, map).with_body(&configuration), n)?;
         }
         self.wrong_bodies(map, n)
+    }
+
+    /// Text memory as long as the text, longer, one byte shorter, of no bytes and of some length below the text's.
+    fn exports(&mut self, map: &[u8]) -> Tried {
+        let length = needed(Kind::Export, map, 0);
+        for room in [length, length + 1 + self.dice.below(40), length - 1, 0, self.dice.below(length)] {
+            let call = dressed(&mut self.dice, Call::new(Kind::Export, map), (room, 0));
+            let told = self.harness.compare(&call)?;
+            if told.number != if room < length { 16 } else { 0 } {
+                return Err(format!("both engines tell {told:?} for {room} bytes in the call\n{call}"));
+            }
+        }
+        Ok(())
     }
 
     /// Rows and configurations of every length, and with a byte above 1 at every place.
@@ -120,11 +135,14 @@ impl Exhaustive<'_> {
         Ok(())
     }
 
-    /// A map of four gates: check, survey, and single entries from every start that keeps the codes. The other calls, which no code changes but for
+    /// A map of four gates: check, export, survey, and single entries from every start that keeps the codes. The other calls, which no code changes but for
     /// mark's answer, where no child is coded: such maps are a tenth.
     fn four_gates(&mut self, map: &[u8]) -> Tried {
         match has_coded_child(map) {
-            true => self.call(Call::new(Kind::Check, map), 4).map(|_| ())?,
+            true => {
+                self.call(Call::new(Kind::Check, map), 4)?;
+                self.exports(map)?;
+            }
             false => self.state_calls(map, 4)?,
         }
         for start in configurations(4) {
@@ -161,9 +179,10 @@ impl Exhaustive<'_> {
         Ok(())
     }
 
-    /// A map of five gates with a voter below a NOT: check, survey, and single entries that draw each gate of the front.
+    /// A map of five gates with a voter below a NOT: check, export, survey, and single entries that draw each gate of the front.
     fn voter_of_five(&mut self, map: &[u8]) -> Tried {
         self.call(Call::new(Kind::Check, map), 5)?;
+        self.exports(map)?;
         for start in configurations(5) {
             let told = self.call(Call::new(Kind::Survey, map).with_body(&start), 5)?;
             if told.number != 0 {
@@ -187,7 +206,7 @@ impl Exhaustive<'_> {
         Ok(())
     }
 
-    /// Memories of every length up to the gate count.
+    /// Memories of every length up to the gate count, Export's text memory left out (`exports`).
     fn short_memories(&mut self, map: &[u8], body: &[u8]) -> Tried {
         for kind in [Kind::Evaluate, Kind::Survey, Kind::Move, Kind::Run] {
             for room in 0..=body.len() {
@@ -207,7 +226,7 @@ impl Exhaustive<'_> {
         if !self.dice.one_in(8) {
             return Ok(());
         }
-        let kind = KINDS[1 + self.dice.below(6)];
+        let kind = KINDS[1 + self.dice.below(KINDS.len() - 1)];
         let mut call = Call { gate: self.dice.below(n as usize + 1), ..Call::new(kind, map) };
         if kind.has_body() {
             call.body = (0..n).map(|_| self.dice.bit()).collect();

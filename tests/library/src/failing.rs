@@ -13,6 +13,7 @@ pub fn numbers_of(kind: Kind) -> Vec<usize> {
         Kind::Check | Kind::Children => (1..=7).collect(),
         Kind::Evaluate => (1..=7).chain([9, 10, 14]).collect(),
         Kind::Mark => (1..=7).chain([9, 10]).collect(),
+        Kind::Export => (1..=7).chain([16]).collect(),
         Kind::Survey => (1..=7).chain([9, 10, 11, 14]).collect(),
         Kind::Move => (1..=7).chain(9..=15).collect(),
         Kind::Run => (1..=7).chain(9..=14).collect(),
@@ -53,6 +54,12 @@ fn tape_length_right(call: &Call) -> bool {
     }
 }
 
+/// The text's length; of a map that is refused that of the shortest text there is, `p cnf 1 0` with its line feed: memory for less is surely shorter than
+/// any text, whatever else is wrong.
+fn least_text(map: &[u8]) -> usize {
+    engine::text(map).map_or(10, |text| text.len())
+}
+
 /// Every number of the call's kind whose test fails, in rising order.
 pub fn failing(call: &Call) -> Vec<usize> {
     let r = reading(&call.map);
@@ -66,6 +73,7 @@ pub fn failing(call: &Call) -> Vec<usize> {
         (12, !tape_length_right(call)),
         (13, call.tape.iter().skip(2).step_by(4).any(|kind| *kind > 2)),
         (14, short),
+        (16, call.kind == Kind::Export && call.memory.len() < least_text(&call.map)),
     ];
     list.extend(rest.iter().filter(|(_, fails)| *fails).map(|(number, _)| *number));
     let numbers = numbers_of(call.kind);

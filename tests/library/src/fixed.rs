@@ -24,6 +24,7 @@ pub fn fixed(harness: &mut Harness) -> Tried {
     examples.check()?;
     examples.children()?;
     examples.mark()?;
+    examples.export()?;
     examples.survey()?;
     examples.make_move()?;
     examples.run()?;
@@ -38,6 +39,7 @@ fn call_of(case: &Case) -> Option<Call> {
         b'e' => Kind::Evaluate,
         b'm' => Kind::Mark,
         b's' => Kind::Survey,
+        b'x' => Kind::Export,
         b'v' => Kind::Move,
         b'r' => Kind::Run,
         _ => return None,
@@ -153,6 +155,30 @@ impl Examples<'_> {
         self.expect(call.clone().with_body(&[1, 0, 1, 1, 0, 1, 0, 1]), 0, &[1, BEFORE, BEFORE])?;
         self.expect(call.clone().with_body(&A), 0, &[0, BEFORE, BEFORE])?;
         self.expect(call.with_body(&[1, 0, 1]), 9, &[BEFORE; 3])
+    }
+
+    /// The adder's text of 162 bytes, into memory of that length and longer; one of no clauses; refused for a byte less, for none, and for the map.
+    fn export(&mut self) -> Tried {
+        let call = |map: &[u8], room| with_memory(Call::new(Kind::Export, map), room, 0);
+        let one = build(&[(INPUT, vec![])], &[]);
+        let adder = self.adder.clone();
+        for room in [162, 163, 300] {
+            self.expect(call(&adder, room), 0, &[162, BEFORE])?;
+            self.expect(call(&adder, room), 0, &[162])?;
+            self.expect(call(&adder, room), 0, &[])?;
+        }
+        self.expect(call(&one, 10), 0, &[10, BEFORE])?;
+        self.expect(call(&adder, 161), 16, &[BEFORE; 2])?;
+        self.expect(call(&adder, 0), 16, &[BEFORE; 2])?;
+        self.expect(call(&one, 9), 16, &[BEFORE; 2])?;
+        self.expect(call(&adder[..67], 162), 3, &[BEFORE; 2])?;
+        self.expect(call(&adder[..67], 0), 3, &[BEFORE; 2])?;
+        let left = self.harness.proved(&Call { way: Way::High, ..call(&one, 12) });
+        let words = peeriewick::Refused(16).to_string();
+        match left.memory == *b"p cnf 1 0\n\xaa\xaa" && words == "refused with 16: the text memory is shorter than the text" {
+            true => Ok(()),
+            false => Err(format!("not the text of one input: {left}, or not the words of 16: {words}")),
+        }
     }
 
     /// P1, a front of two, a Stuck gate, and refused for short memory.

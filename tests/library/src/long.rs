@@ -1,13 +1,13 @@
 //! Long tapes, large maps, and lengths past 32 bits.
 
 use crate::call::{Call, Kind};
-use crate::dress::{dressed, enough};
+use crate::dress::{dressed, enough, needed};
 use crate::engines::{FOUND, SPENT, STUCK};
 use crate::harness::Harness;
-use crate::lend::Pages;
-use peeriewick::raw;
+use crate::lend::{Pages, Way};
+use peeriewick::{raw, LONGEST_TEXT};
 use peeriewick_tests::dice::Dice;
-use peeriewick_tests::engine::{AND, DOWN, GREEDY, INPUT, NOT, OR, UP, VOTER};
+use peeriewick_tests::engine::{self, AND, DOWN, GREEDY, INPUT, NOT, OR, UP, VOTER, XOR};
 use peeriewick_tests::fixed::adder;
 use peeriewick_tests::maps::{build, push16};
 use peeriewick_tests::random::random_entries;
@@ -53,6 +53,19 @@ fn longest() -> (Vec<u8>, Vec<u8>) {
         longest.extend([*value, 0]);
     }
     (longest, kept)
+}
+
+/// The map with the longest text, 141,716 bytes: each gate has the kind whose clauses take most bytes, over the gates next below, and is coded 0.
+fn longest_text() -> Vec<u8> {
+    let gate = |number: u16| match number {
+        0 => (INPUT, vec![]),
+        1 => (NOT, vec![0]),
+        2 => (XOR, vec![0, 1]),
+        3..=5 => (VOTER, (number - 3..number).collect()),
+        _ => (AND, (number.saturating_sub(8)..number).collect()),
+    };
+    let gates: Vec<(u8, Vec<u16>)> = (0..1024).map(gate).collect();
+    build(&gates, &(0..1024).map(|gate| (gate, 0)).collect::<Vec<_>>())
 }
 
 /// The torn map behind an input and its NOT, both coded 0: gate 1 is Stuck, and draw 1 takes one of the others.
@@ -121,6 +134,7 @@ pub fn long(harness: &mut Harness) -> Result<String, String> {
     all.longest_map()?;
     all.large_runs()?;
     all.voters()?;
+    all.texts()?;
     huge_lengths()
 }
 
@@ -324,8 +338,42 @@ impl Long<'_> {
                 let count = if kind == Kind::Move { 1 } else { 60 };
                 call.tape = random_entries(&mut self.dice, count);
             }
-            let call = dressed(&mut self.dice, call, (1024, 1024));
+            let call = dressed(&mut self.dice, call, (needed(kind, map, 1024), 1024));
             self.harness.compare(&call)?;
+        }
+        Ok(())
+    }
+
+    /// The longest text, into memories that are long enough and into such that aren't, some of them only modulo 65,536; and the texts of other maps of 1,024
+    /// gates, which end a byte before their memory ends, with it, and a byte behind.
+    fn texts(&mut self) -> Tried {
+        let map = longest_text();
+        for room in [LONGEST_TEXT, 141_716, 141_717, 141_800, 196_608, 207_252, 300_000] {
+            self.text(&map, room, 0, &[141_716])?;
+        }
+        for room in [0, 1, 10, 1024, 10_643, 10_644, 10_645, 65_535, 65_536, 76_180, 131_072, 141_714, 141_715] {
+            self.text(&map, room, 16, &[])?;
+        }
+        self.text(&map[..map.len() - 1], 0, 3, &[])?;
+        self.text(&map[..map.len() - 1], 141_716, 3, &[])?;
+        self.every_call(&map, &[0; 1024], 1)?;
+        for (map, _) in [longest(), fullest(), widest(&mut self.dice), chain_of_voters(), widest_voters(&mut self.dice)] {
+            let length = engine::text(&map).map_err(|number| format!("a large map is refused with {number}"))?.len();
+            self.text(&map, length - 1, 16, &[])?;
+            self.text(&map, length, 0, &[length])?;
+            self.text(&map, length + 1, 0, &[length])?;
+        }
+        Ok(())
+    }
+
+    fn text(&mut self, map: &[u8], room: usize, number: u8, numbers: &[usize]) -> Tried {
+        for way in [Way::High, Way::Low, Way::Guarded(3)] {
+            let call = Call { way, ..dressed(&mut self.dice, Call::new(Kind::Export, map), (room, 0)) };
+            let (told, left) = self.harness.compared(&call)?;
+            self.harness.compare_wrapper(&call, &told, &left)?;
+            if (told.number, &told.numbers[..]) != (number, numbers) {
+                return Err(format!("both engines tell {told:?} for text memory of {room} bytes, not {number} {numbers:?}"));
+            }
         }
         Ok(())
     }
@@ -358,6 +406,7 @@ impl Huge {
         unsafe {
             self.put(&adder());
             got.push((raw::peeriewick_check(lent, SIZE + 68, none, 0), 3));
+            got.push((raw::peeriewick_export(lent, SIZE + 68, w, 8, none, 0), 3));
             self.put(&[1, 0, 1]);
             got.push((raw::peeriewick_evaluate(p, 68, lent, SIZE + 3, w, 8), 9));
             self.put(&[0, 0, 1, 1, 0, 1, 0, 1]);
@@ -375,21 +424,24 @@ impl Huge {
     fn accepted(&mut self) -> Vec<(u8, u8)> {
         let (p, lent, none, mut got) = (self.map.as_ptr(), self.lent, std::ptr::null_mut(), Vec::new());
         let (c, w, a) = (self.start.as_mut_ptr(), self.work.as_mut_ptr(), self.answer.as_mut_ptr());
-        self.put(&[7; 68]);
+        self.put(&[7; 200]);
         unsafe {
             got.push((raw::peeriewick_evaluate(p, 68, [1, 0, 1].as_ptr(), 3, lent, SIZE + 2), 0));
             got.push((raw::peeriewick_survey(p, 68, c, 8, w, 8, self.numbers, SIZE + 1), 0));
             got.push((raw::peeriewick_run(p, 68, c, 8, TAPE.as_ptr(), 4, lent.add(16), SIZE, a, 8, none, 0), 0));
+            got.push((raw::peeriewick_export(p, 68, lent.add(32), SIZE + 161, self.numbers.add(2), SIZE), 0));
         }
         got
     }
 
     fn left_right(&self) -> bool {
-        let left = unsafe { std::slice::from_raw_parts(self.lent, 32) };
-        let numbers = unsafe { [*self.numbers, *self.numbers.add(1), *self.numbers.add(2)] };
+        let left = unsafe { std::slice::from_raw_parts(self.lent, 200) };
+        let numbers = unsafe { std::slice::from_raw_parts(self.numbers, 4) };
+        let text = engine::text(&self.map).unwrap_or_default();
         left[..16] == [1, 0, 1, 1, 0, 1, 0, 1, 7, 7, 7, 7, 7, 7, 7, 7]
-            && left[16..] == [1, 1, 1, 1, 0, 1, 0, 1, 7, 7, 7, 7, 7, 7, 7, 7]
-            && numbers == [1, 3, 0]
+            && left[16..32] == [1, 1, 1, 1, 0, 1, 0, 1, 7, 7, 7, 7, 7, 7, 7, 7]
+            && left[32..] == [text.as_bytes(), &[7; 6]].concat()
+            && numbers == [1, 3, 162, 0]
             && self.answer == [1, 0, 1, 1, 0, 1, 0, 1]
             && self.work == [4, 4, 1, 7, 0, 1, 0, 1]
     }

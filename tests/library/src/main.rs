@@ -7,6 +7,7 @@
 //!     peeriewick-library damaged SEED N    every number and every pair of failing tests, then N calls with random damage
 //!     peeriewick-library long              long tapes, large maps, and lengths past 32 bits
 //!     peeriewick-library threads SEED N    N calls from each of four threads at once
+//!     peeriewick-library solvers SEED N    two clause solvers on the texts of small maps, of N random ones and of N / 4 large ones
 //!     peeriewick-library sample SEED N     N calls with every buffer in an allocation of its own, for valgrind
 //!     peeriewick-library replay [CALL]     makes a call again and prints what both engines leave; without CALL, each call on standard input
 //!
@@ -22,10 +23,12 @@ mod failing;
 mod fixed;
 mod harness;
 mod lend;
+mod levels;
 mod long;
 mod order;
 mod random;
 mod shapes;
+mod solvers;
 mod threads;
 
 use call::{Call, KINDS};
@@ -92,6 +95,11 @@ fn sample(seed: u64, n: usize) -> Said {
     Ok(format!("sample: {} calls, seed {seed}", harness.calls))
 }
 
+fn solvers(seed: u64, n: usize) -> Said {
+    let account = solvers::solvers(seed, n)?;
+    Ok(format!("solvers: seed {seed}; {account}"))
+}
+
 /// The calls among these lines: a whole message of a failure will do.
 fn calls_in(text: &str) -> Result<Vec<Call>, String> {
     let named = |line: &&str| KINDS.iter().any(|kind| line.split(' ').next() == Some(kind.name()));
@@ -125,7 +133,7 @@ fn number<T: std::str::FromStr>(word: &str) -> T {
 
 fn usage(message: &str) -> ! {
     eprintln!("peeriewick-library: {message}");
-    eprintln!("use: fixed | exhaustive | order | random SEED N | damaged SEED N | long | threads SEED N | sample SEED N | replay [CALL]");
+    eprintln!("use: fixed | exhaustive | order | random SEED N | damaged SEED N | long | threads SEED N | solvers SEED N | sample SEED N | replay [CALL]");
     exit(2)
 }
 
@@ -141,6 +149,7 @@ fn main() {
         ["damaged", seed, n] => damaged(number(seed), number(n)),
         ["long"] => long(),
         ["threads", seed, n] => threads(number(seed), number(n)),
+        ["solvers", seed, n] => solvers(number(seed), number(n)),
         ["sample", seed, n] => sample(number(seed), number(n)),
         ["replay", ..] => replay(&arguments[1..]),
         _ => usage("no such command"),

@@ -39,7 +39,7 @@ fn call_for(dice: &mut Dice, kind: Kind, base: &Draft, map: &[u8]) -> Call {
     keep_codes(base, &mut start);
     let call = Call { gate: dice.below(gates), ..call_on(dice, kind, map) };
     match kind {
-        Kind::Check | Kind::Children => call,
+        Kind::Check | Kind::Children | Kind::Export => call,
         Kind::Evaluate => call.with_body(&vec![0; base.inputs()]),
         _ => call.with_body(&start),
     }

@@ -1,7 +1,7 @@
 //! Random calls: maps of every shape and size, configurations near to and far from obeying, short and long tapes.
 
 use crate::call::{Call, Kind};
-use crate::dress::{any_room, dressed};
+use crate::dress::{any_room, dressed, needed};
 use crate::engines::{Outcome, Told, FOUND, SPENT, STUCK};
 use crate::harness::Harness;
 use crate::shapes::{made, Made, SHAPES};
@@ -14,13 +14,15 @@ use std::collections::BTreeSet;
 use std::fmt;
 
 /// The kinds of calls, as often as they stand here.
-const MIX: [Kind; 20] = [
+const MIX: [Kind; 22] = [
     Kind::Check,
     Kind::Children,
     Kind::Evaluate,
     Kind::Evaluate,
     Kind::Mark,
     Kind::Mark,
+    Kind::Export,
+    Kind::Export,
     Kind::Survey,
     Kind::Survey,
     Kind::Survey,
@@ -118,7 +120,7 @@ pub fn random_call(dice: &mut Dice, size: usize) -> Call {
         Kind::Run => call.tape = random_lent_tape(dice, gates),
         _ => {}
     }
-    let rooms = (any_room(dice, gates), any_room(dice, gates));
+    let rooms = (any_room(dice, needed(kind, &call.map, gates)), any_room(dice, gates));
     dressed(dice, call, rooms)
 }
 
@@ -143,6 +145,11 @@ struct Met {
     one_of_pair: u64,
     both_of_pair: u64,
     long: u64,
+    /// Texts written, and those of more than 65,535 bytes.
+    texts: u64,
+    long_texts: u64,
+    /// Exports refused for short memory.
+    short_of_text: u64,
     refused: u64,
 }
 
@@ -158,6 +165,11 @@ impl Met {
             self.stuck += (told.numbers[0] == STUCK) as u64;
             self.long += (told.numbers[1] > 10_000) as u64;
         }
+        if call.kind == Kind::Export {
+            self.texts += (told.number == 0) as u64;
+            self.long_texts += (told.number == 0 && told.numbers[0] > 65_535) as u64;
+            self.short_of_text += (told.number == 16) as u64;
+        }
         if call.kind == Kind::Move && told.number == 0 {
             let (gate, turned) = (told.numbers[0], told.numbers[1]);
             let itself = left.body[gate] != call.body[gate];
@@ -169,11 +181,13 @@ impl Met {
         }
     }
 
-    /// Whether `n` calls should have met more: each ending, moves for want of options, moves of either sort from voters and refusals one time in 400.
+    /// Whether `n` calls should have met more: each ending, moves for want of options, moves of either sort from voters, exports and refusals one time in 400,
+    /// exports refused for short memory one time in 4,000, and texts of more than 65,535 bytes one time in 8,000.
     fn bare(&self, n: usize) -> bool {
         let pairs = self.one_of_pair.min(self.both_of_pair);
-        let least = self.found.min(self.spent).min(self.stuck).min(self.for_want).min(self.refused).min(pairs);
-        self.sizes.len() != 1024 || least < n as u64 / 400 || self.long == 0
+        let least = self.found.min(self.spent).min(self.stuck).min(self.for_want).min(self.refused).min(pairs).min(self.texts);
+        let few_texts = self.short_of_text < n as u64 / 4000 || self.long_texts < n as u64 / 8000;
+        self.sizes.len() != 1024 || least < n as u64 / 400 || few_texts || self.long == 0
     }
 }
 
@@ -181,7 +195,9 @@ impl fmt::Display for Met {
     fn fmt(&self, f: &mut fmt::Formatter<'_>) -> fmt::Result {
         write!(f, "{} sizes of maps, {} found, {} spent, {} stuck, ", self.sizes.len(), self.found, self.spent, self.stuck)?;
         write!(f, "{} of over 10,000 moves, {} moves for want of options, ", self.long, self.for_want)?;
-        write!(f, "{} and {} that turn one and two children of a voter, {} refused", self.one_of_pair, self.both_of_pair, self.refused)
+        write!(f, "{} and {} that turn one and two children of a voter, ", self.one_of_pair, self.both_of_pair)?;
+        write!(f, "{} texts, {} of over 65,535 bytes, {} without room, ", self.texts, self.long_texts, self.short_of_text)?;
+        write!(f, "{} refused", self.refused)
     }
 }
 

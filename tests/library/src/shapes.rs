@@ -50,7 +50,7 @@ pub struct Made {
 }
 
 /// That many children among the gates below `below`, or all of them where there are no more.
-fn some_children(dice: &mut Dice, below: usize, count: usize) -> Vec<u16> {
+pub fn some_children(dice: &mut Dice, below: usize, count: usize) -> Vec<u16> {
     let mut list: Vec<u16> = Vec::new();
     while list.len() < count.min(below) {
         let child = dice.below(below) as u16;
