@@ -111,6 +111,24 @@ static void show_search(void)
     show_run("run on a map that is cut off", number, NULL);
 }
 
+/* Export of the adder, and a call that is refused as its memory is a byte too short. */
+static void show_export(void)
+{
+    static uint8_t text[PEERIEWICK_TEXT];
+    size_t n[PEERIEWICK_NUMBERS] = {0, 0, 0, 0};
+    uint8_t number = peeriewick_export(map, sizeof map, text, sizeof text, n, PEERIEWICK_NUMBERS);
+    if (number != PEERIEWICK_ACCEPTED) {
+        printf("export %u: refused\n", number);
+        return;
+    }
+    size_t length = n[PEERIEWICK_EXPORT_LENGTH];
+    printf("export %u: %zu bytes\n", number, length);
+    fwrite(text, 1, length, stdout);
+
+    number = peeriewick_export(map, sizeof map, text, length - 1, NULL, 0);
+    printf("export to a byte less: %u\n", number);
+}
+
 /* The map that is stuck: by a move, by a run, and by a run without an entry, which is spent. */
 static void show_stuck(void)
 {
@@ -136,5 +154,6 @@ int main(void)
     show_state();
     show_search();
     show_stuck();
+    show_export();
     return 0;
 }

@@ -1,14 +1,14 @@
 /* Peeriewick for C hosts: its calls, proved in Rattle.
  *
  * `./archives` makes a static library for each service level in target/staticlib; link with one of them:
- *     libpeeriewick_state.a     check, children, evaluate, mark
+ *     libpeeriewick_state.a     check, children, evaluate, mark, export
  *     libpeeriewick_survey.a    and survey
  *     libpeeriewick_search.a    and move and run
  *
- * docs/FORMAT.md has the bytes of maps, rows, configurations, tapes and surveys. Two-byte numbers have the lower byte first.
+ * docs/FORMAT.md has the bytes of maps, rows, configurations, tapes, surveys and texts. Two-byte numbers have the lower byte first.
  *
  * A lent buffer is a pointer and a length in elements; `NULL, 0` is an empty one. Buffers that a call writes must not overlap any other
- * buffer of that call. Any bytes may be given, and output, work, answer and `numbers` may hold anything before a call. No call allocates or keeps anything
+ * buffer of that call. Any bytes may be given, and output, text, work and answer memory and `numbers` may hold anything before a call. No call allocates or keeps anything
  * between calls: calls may run at the same time, on the same map too, as long as none writes what another reads or writes. A call takes less than 6 KiB of
  * stack, and of the C library memset alone.
  *
@@ -28,6 +28,9 @@ extern "C" {
 
 /* The most gates of a map: output, work and answer memory of this size is always long enough. (A row or configuration has exactly its length.) */
 #define PEERIEWICK_GATES 1024
+
+/* The most bytes of a text: text memory of this size is always long enough. */
+#define PEERIEWICK_TEXT 141716
 
 /* The most numbers that a call puts into `numbers`: this many places are enough for each. */
 #define PEERIEWICK_NUMBERS 4
@@ -72,7 +75,8 @@ enum {
     PEERIEWICK_REFUSED_TAPE = 12,       /* the tape's length isn't a multiple of 4 or is above 65,532; a lent entry isn't 4 bytes */
     PEERIEWICK_REFUSED_ENTRIES = 13,    /* an entry, even one never reached, has a kind above 2 */
     PEERIEWICK_REFUSED_MEMORY = 14,     /* output, work or answer memory is shorter than the gate count */
-    PEERIEWICK_REFUSED_FRONT = 15       /* the front is empty */
+    PEERIEWICK_REFUSED_FRONT = 15,      /* the front is empty */
+    PEERIEWICK_REFUSED_TEXT = 16        /* the text memory is shorter than the text */
 };
 
 /* Checks a map. Numbers: the counts of gates, inputs, children and codes. Refused with 1 to 7. */
@@ -109,6 +113,17 @@ enum {
 uint8_t peeriewick_mark(const uint8_t *map, size_t map_len,
                         const uint8_t *configuration, size_t configuration_len,
                         size_t *numbers, size_t numbers_len);
+
+/* Writes the map as DIMACS CNF, for clause solvers: `p cnf`, the counts of gates and of clauses, and then a clause a line. Gate g is variable g + 1. Values of the variables satisfy the clauses
+ * exactly where mark says yes to the configuration in which gate g is 1 where variable g + 1 is true and else 0; a variable that a solver leaves out may have either value. So they are
+ * unsatisfiable exactly where no state shows the codes. `text`: room for the whole text, written: PEERIEWICK_TEXT bytes are always enough, and a refused call doesn't say how many are. Each line ends with
+ * a line feed, and no zero byte stands behind the last: the number alone says where the text ends. Numbers: the text's length. Refused with 1 to 7 and 16. */
+enum {
+    PEERIEWICK_EXPORT_LENGTH = 0
+};
+uint8_t peeriewick_export(const uint8_t *map, size_t map_len,
+                          uint8_t *text, size_t text_len,
+                          size_t *numbers, size_t numbers_len);
 
 /* Writes where each gate stands in a search. `configuration`: exactly a byte 0 or 1 for each gate, with the codes kept. `out`: room for a byte per gate, written: 1 in the
  * cone, plus 2 in the front, plus 4 interesting. Numbers: the sizes of front and interest set. Refused with 1 to 7, 9 to 11 and 14. */

@@ -60,6 +60,7 @@ impl Refused {
             13 => "an entry has a kind above 2",
             14 => "output, work or answer memory is shorter than the gate count",
             15 => "the front is empty",
+            16 => "the text memory is shorter than the text",
             _ => "no number of document 01",
         }
     }
@@ -136,6 +137,20 @@ pub fn mark(map: &[u8], configuration: &[u8]) -> Result<bool, Refused> {
         )
     };
     result(number, n[0] == 1)
+}
+
+/// The longest text that [`export`] writes: text memory of this size is enough for any map.
+pub const LONGEST_TEXT: usize = 141_716;
+
+/// Writes the map as DIMACS CNF into `text` and returns the text's length: the line `p cnf`, each gate's clauses and a unit clause for each code, over
+/// variables that are the gate numbers plus 1. An assignment satisfies the clauses exactly where [`mark`] says yes. Refused with 1 to 7 and 16.
+pub fn export(map: &[u8], text: &mut [u8]) -> Result<usize, Refused> {
+    let mut n = [0usize; 1];
+    let number = unsafe {
+        raw::peeriewick_export(map.as_ptr(), map.len(), text.as_mut_ptr(), text.len(), n.as_mut_ptr(), n.len())
+    };
+    let [length] = n;
+    result(number, length)
 }
 
 /// The sizes of front and interest set.

@@ -23,6 +23,15 @@ extern "C" {
         numbers_len: usize,
     ) -> u8;
 
+    pub fn peeriewick_export(
+        map: *const u8,
+        map_len: usize,
+        text: *mut u8,
+        text_len: usize,
+        numbers: *mut usize,
+        numbers_len: usize,
+    ) -> u8;
+
     #[cfg(feature = "survey")]
     pub fn peeriewick_survey(
         map: *const u8,
