@@ -473,6 +473,212 @@ static size_t do_entry(const struct map *map, const uint8_t *entry, size_t gate,
     return turn_option(map, gate, option, values);
 }
 
+/* ---- Clauses as text ---- */
+
+/* DIMACS numbers variables from 1; a literal is its variable's number, below 0 where it is negated. */
+static inline int variable_of(size_t gate)
+{
+    return (int)gate + 1;
+}
+
+static inline int child_variable(const uint8_t *children, size_t place)
+{
+    return variable_of(child_at(children, place));
+}
+
+/* Of a number below 100,000; neither a variable nor a count of clauses is above. */
+static inline size_t digits_of(unsigned number)
+{
+    return 1 + (number >= 10) + (number >= 100) + (number >= 1000) + (number >= 10000);
+}
+
+/* The clauses of a gate: how many, in how many of them each child stands, and how many minus signs they have. */
+struct shape {
+    size_t clauses, per_child, minus_signs;
+};
+
+static inline struct shape shape_of(unsigned kind, size_t fan_in)
+{
+    switch (kind) {
+    case NOT:
+        return (struct shape){ 2, 2, 2 };
+    case AND:
+        return (struct shape){ fan_in + 1, 2, 2 * fan_in };
+    case OR:
+        return (struct shape){ fan_in + 1, 2, fan_in + 1 };
+    case XOR:
+        return (struct shape){ 4, 4, 6 };
+    case VOTER:
+        return (struct shape){ 6, 4, 9 };
+    default:
+        return (struct shape){ 0, 0, 0 };
+    }
+}
+
+/* How many clauses and bytes a text has. */
+struct measure {
+    size_t clauses, bytes;
+};
+
+/* The gate stands in each of its clauses. A blank follows each literal, and the end of a clause has two bytes. */
+static inline void measure_gate(const struct map *map, size_t gate, struct measure *measure)
+{
+    const uint8_t *children = children_of(map, gate);
+    size_t fan_in = fan_in_of(map, gate);
+    struct shape shape = shape_of(kind_of(map, gate), fan_in);
+    size_t child_bytes = 0;
+    for (size_t i = 0; i < fan_in; i++)
+        child_bytes += digits_of(child_variable(children, i)) + 1;
+    measure->clauses += shape.clauses;
+    measure->bytes += shape.clauses * (digits_of(variable_of(gate)) + 3) + shape.per_child * child_bytes + shape.minus_signs;
+}
+
+static const char HEAD[] = "p cnf ";
+enum { HEAD_SIZE = sizeof HEAD - 1 };
+
+static struct measure measure_text(const struct map *map)
+{
+    struct measure measure = { map->code_count, 0 };
+    for (size_t gate = 0; gate < map->gate_count; gate++)
+        measure_gate(map, gate, &measure);
+    for (size_t code = 0; code < map->code_count; code++)
+        measure.bytes += digits_of(variable_of(code_gate(map, code))) + 3 + !code_value(map, code);
+    measure.bytes += HEAD_SIZE + digits_of(map->gate_count) + 1 + digits_of(measure.clauses) + 1;
+    return measure;
+}
+
+/* What writes takes the place to write at, and returns the one behind what it wrote. */
+static inline uint8_t *put_number(uint8_t *text, unsigned number)
+{
+    if (number >= 10000)
+        *text++ = (uint8_t)('0' + number / 10000);
+    if (number >= 1000)
+        *text++ = (uint8_t)('0' + number / 1000 % 10);
+    if (number >= 100)
+        *text++ = (uint8_t)('0' + number / 100 % 10);
+    if (number >= 10)
+        *text++ = (uint8_t)('0' + number / 10 % 10);
+    *text++ = (uint8_t)('0' + number % 10);
+    return text;
+}
+
+/* Without a jump for the sign: where there is none, the first digit is written over it. */
+static inline uint8_t *put_literal(uint8_t *text, int literal)
+{
+    bool negated = literal < 0;
+    *text = '-';
+    text = put_number(text + negated, (unsigned)(negated ? -literal : literal));
+    *text++ = ' ';
+    return text;
+}
+
+static inline uint8_t *end_clause(uint8_t *text)
+{
+    *text++ = '0';
+    *text++ = '\n';
+    return text;
+}
+
+static inline uint8_t *put_pair(uint8_t *text, int first, int second)
+{
+    text = put_literal(text, first);
+    text = put_literal(text, second);
+    return end_clause(text);
+}
+
+static inline uint8_t *put_triple(uint8_t *text, int first, int second, int third)
+{
+    text = put_literal(text, first);
+    text = put_literal(text, second);
+    text = put_literal(text, third);
+    return end_clause(text);
+}
+
+/* A clause of the first literal and each child, with this sign. */
+static inline uint8_t *put_each(uint8_t *text, int first, const uint8_t *children, size_t fan_in, int sign)
+{
+    for (size_t i = 0; i < fan_in; i++)
+        text = put_pair(text, first, sign * child_variable(children, i));
+    return text;
+}
+
+/* One clause of the first literal and all children, with this sign. */
+static inline uint8_t *put_all(uint8_t *text, int first, const uint8_t *children, size_t fan_in, int sign)
+{
+    text = put_literal(text, first);
+    for (size_t i = 0; i < fan_in; i++)
+        text = put_literal(text, sign * child_variable(children, i));
+    return end_clause(text);
+}
+
+/* A clause of the first literal and each pair of a voter's children, with this sign. */
+static inline uint8_t *put_voter_pairs(uint8_t *text, int first, const uint8_t *children, int sign)
+{
+    for (size_t i = 0; i < VOTER_OPTIONS; i++)
+        text = put_triple(text, first, sign * child_variable(children, voter_pairs[i][0]), sign * child_variable(children, voter_pairs[i][1]));
+    return text;
+}
+
+static inline uint8_t *put_xor(uint8_t *text, int gate, int a, int b)
+{
+    text = put_triple(text, -gate, a, b);
+    text = put_triple(text, -gate, -a, -b);
+    text = put_triple(text, gate, a, -b);
+    return put_triple(text, gate, -a, b);
+}
+
+/* The clauses that negate the gate come first. */
+static inline uint8_t *put_gate(uint8_t *text, const struct map *map, size_t gate)
+{
+    const uint8_t *children = children_of(map, gate);
+    size_t fan_in = fan_in_of(map, gate);
+    int variable = variable_of(gate);
+    switch (kind_of(map, gate)) {
+    case NOT:
+        text = put_pair(text, -variable, -child_variable(children, 0));
+        return put_pair(text, variable, child_variable(children, 0));
+    case AND:
+        text = put_each(text, -variable, children, fan_in, 1);
+        return put_all(text, variable, children, fan_in, -1);
+    case OR:
+        text = put_all(text, -variable, children, fan_in, 1);
+        return put_each(text, variable, children, fan_in, -1);
+    case XOR:
+        return put_xor(text, variable, child_variable(children, 0), child_variable(children, 1));
+    case VOTER:
+        text = put_voter_pairs(text, -variable, children, 1);
+        return put_voter_pairs(text, variable, children, -1);
+    default:
+        return text;
+    }
+}
+
+static inline uint8_t *put_code(uint8_t *text, const struct map *map, size_t code)
+{
+    int variable = variable_of(code_gate(map, code));
+    text = put_literal(text, code_value(map, code) ? variable : -variable);
+    return end_clause(text);
+}
+
+static uint8_t *put_head(uint8_t *text, size_t variables, size_t clauses)
+{
+    memcpy(text, HEAD, HEAD_SIZE);
+    text = put_number(text + HEAD_SIZE, variables);
+    *text++ = ' ';
+    text = put_number(text, clauses);
+    *text++ = '\n';
+    return text;
+}
+
+static void write_text(const struct map *map, size_t clauses, uint8_t *text)
+{
+    text = put_head(text, map->gate_count, clauses);
+    for (size_t gate = 0; gate < map->gate_count; gate++)
+        text = put_gate(text, map, gate);
+    for (size_t code = 0; code < map->code_count; code++)
+        text = put_code(text, map, code);
+}
+
 /* ---- Calls ---- */
 
 /* Writes as many of the answer's numbers as there are places for. */
@@ -599,5 +805,21 @@ uint8_t plain_run(const uint8_t *map, size_t map_len,
         write_answer(&m, configuration, work, answer);
     size_t result[4] = { ending, run.place / ENTRY_SIZE, run.flips, ending == SPENT ? run.front : 0 };
     put_numbers(numbers, numbers_len, result, 4);
+    return 0;
+}
+
+uint8_t plain_export(const uint8_t *map, size_t map_len,
+                     uint8_t *text, size_t text_len,
+                     size_t *numbers, size_t numbers_len)
+{
+    struct map m;
+    uint8_t declined = open_map(&m, map, map_len);
+    if (declined)
+        return declined;
+    struct measure measure = measure_text(&m);
+    if (text_len < measure.bytes)
+        return 16;
+    write_text(&m, measure.clauses, text);
+    put_numbers(numbers, numbers_len, &measure.bytes, 1);
     return 0;
 }

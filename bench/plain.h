@@ -1,5 +1,5 @@
-/* A plain engine in C for four calls of document 01: the yardstick that the benchmark holds the proved engine against. Parameters, return values and
- * what is written are those of the functions of the same names in ../include/peeriewick.h. */
+/* A plain engine in C for four calls of document 01 and one of document 02, export: the yardstick that the benchmark holds the proved engine against.
+ * Parameters, return values and what is written are those of the functions of the same names in ../include/peeriewick.h. */
 #ifndef PLAIN_H
 #define PLAIN_H
 
@@ -24,5 +24,9 @@ uint8_t plain_run(const uint8_t *map, size_t map_len,
                   uint8_t *work, size_t work_len,
                   uint8_t *answer, size_t answer_len,
                   size_t *numbers, size_t numbers_len);
+
+uint8_t plain_export(const uint8_t *map, size_t map_len,
+                     uint8_t *text, size_t text_len,
+                     size_t *numbers, size_t numbers_len);
 
 #endif

@@ -7,13 +7,13 @@ use crate::random::Random;
 
 /// How often each number was returned, and how often a run that was lent a place for its ending ended Spent, Found and Stuck.
 struct Tally {
-    answers: [usize; 16],
+    answers: [usize; 17],
     endings: [usize; 3],
 }
 
 /// Says how many answers of each number there were, or reports the first difference.
 pub fn agree(seed: u64, cases: usize) -> Result<(), String> {
-    let mut tally = Tally { answers: [0; 16], endings: [0; 3] };
+    let mut tally = Tally { answers: [0; 17], endings: [0; 3] };
     for number in 0..cases {
         let mut random = Random::new(seed.wrapping_mul(1_000_003).wrapping_add(number as u64));
         let case = random_case(&mut random);

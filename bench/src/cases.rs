@@ -1,6 +1,8 @@
 //! Random cases for the comparison: small and large maps, most of them accepted, some with a little damage to the map or to what else is lent.
 
 use crate::circuit::{Circuit, Gate, VOTER};
+use crate::engine::PLAIN;
+use crate::inputs::TEXT_PER_GATE;
 use crate::lent::{Buffer, Lent};
 use crate::random::Random;
 
@@ -25,6 +27,8 @@ pub fn random_case(random: &mut Random) -> Lent {
     };
     let (out, answer) = (memory(), memory());
     let numbers = vec![9999; if random.once_in(4) { random.below(7) } else { 4 }];
+    let text_len = random_text_len(random, &map, size);
+    let text = Buffer::new(&random.bytes(text_len), guard);
     Lent {
         map: Buffer::new(&map, guard),
         row: Buffer::new(&row, guard),
@@ -32,6 +36,7 @@ pub fn random_case(random: &mut Random) -> Lent {
         tape: Buffer::new(&tape, guard),
         out,
         answer,
+        text,
         numbers: Buffer::new(&numbers, 9999),
     }
 }
@@ -110,6 +115,19 @@ fn random_memory_len(random: &mut Random, size: usize) -> usize {
         1 => size - 1,
         2..=5 => size + random.below(40),
         _ => size,
+    }
+}
+
+/// Long enough or too short for the map's text, often by a single byte. Where the map is refused there is no text, and any memory will do.
+fn random_text_len(random: &mut Random, map: &[u8], size: usize) -> usize {
+    let mut numbers = [random.below(40)];
+    PLAIN.export(map, &mut vec![0; TEXT_PER_GATE * size], &mut numbers);
+    let [len] = numbers;
+    match random.below(8) {
+        0 => random.below(len + 1),
+        1 => len.saturating_sub(1),
+        2 | 3 => len + random.below(40),
+        _ => len,
     }
 }
 

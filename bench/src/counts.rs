@@ -12,8 +12,18 @@ use crate::rows::{Pair, Work, WORKS};
 const OUT: &str = "target/callgrind.out";
 
 /// Instructions are collected while one of these runs.
-const CALLS: [&str; 8] =
-    ["plain_check", "plain_evaluate", "plain_survey", "plain_run", "peeriewick_check", "peeriewick_evaluate", "peeriewick_survey", "peeriewick_run"];
+const CALLS: [&str; 10] = [
+    "plain_check",
+    "plain_evaluate",
+    "plain_survey",
+    "plain_run",
+    "plain_export",
+    "peeriewick_check",
+    "peeriewick_evaluate",
+    "peeriewick_survey",
+    "peeriewick_run",
+    "peeriewick_export",
+];
 
 /// The instructions of a seed's cells, in their order, by a run of `driver` under valgrind.
 pub fn count(driver: &str, seed: u64) -> Result<Vec<Pair>, String> {
@@ -65,9 +75,10 @@ fn run_sample(engine: &Engine, work: Work, sample: &[Input]) -> usize {
         Work::Check => (Call::Check, Tape::DownUp),
         Work::Evaluate => (Call::Evaluate, Tape::DownUp),
         Work::Survey => (Call::Survey, Tape::DownUp),
+        Work::Export => (Call::Export, Tape::DownUp),
     };
     for input in sample {
-        input.lent(tape).call(engine, call);
+        input.lent(call, tape).call(engine, call);
     }
     sample_ends();
     if call == Call::Run {

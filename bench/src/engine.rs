@@ -4,10 +4,11 @@ type Check = unsafe extern "C" fn(*const u8, usize, *mut usize, usize) -> u8;
 type Evaluate = unsafe extern "C" fn(*const u8, usize, *const u8, usize, *mut u8, usize) -> u8;
 type Survey = unsafe extern "C" fn(*const u8, usize, *const u8, usize, *mut u8, usize, *mut usize, usize) -> u8;
 type Run = unsafe extern "C" fn(*const u8, usize, *mut u8, usize, *const u8, usize, *mut u8, usize, *mut u8, usize, *mut usize, usize) -> u8;
+type Export = unsafe extern "C" fn(*const u8, usize, *mut u8, usize, *mut usize, usize) -> u8;
 
 /// Declares one engine's functions and gathers them.
 macro_rules! engine {
-    ($engine:ident, $name:literal, $check:ident, $evaluate:ident, $survey:ident, $run:ident) => {
+    ($engine:ident, $name:literal, $check:ident, $evaluate:ident, $survey:ident, $run:ident, $export:ident) => {
         extern "C" {
             fn $check(map: *const u8, map_len: usize, numbers: *mut usize, numbers_len: usize) -> u8;
             fn $evaluate(map: *const u8, map_len: usize, row: *const u8, row_len: usize, out: *mut u8, out_len: usize) -> u8;
@@ -35,13 +36,14 @@ macro_rules! engine {
                 numbers: *mut usize,
                 numbers_len: usize,
             ) -> u8;
+            fn $export(map: *const u8, map_len: usize, text: *mut u8, text_len: usize, numbers: *mut usize, numbers_len: usize) -> u8;
         }
-        pub const $engine: Engine = Engine { name: $name, check: $check, evaluate: $evaluate, survey: $survey, run: $run };
+        pub const $engine: Engine = Engine { name: $name, check: $check, evaluate: $evaluate, survey: $survey, run: $run, export: $export };
     };
 }
 
-engine!(PLAIN, "plain C", plain_check, plain_evaluate, plain_survey, plain_run);
-engine!(PROVED, "Peeriewick", peeriewick_check, peeriewick_evaluate, peeriewick_survey, peeriewick_run);
+engine!(PLAIN, "plain C", plain_check, plain_evaluate, plain_survey, plain_run, plain_export);
+engine!(PROVED, "Peeriewick", peeriewick_check, peeriewick_evaluate, peeriewick_survey, peeriewick_run, peeriewick_export);
 
 /// How a run ends, as the first of its numbers tells.
 pub const SPENT: usize = 0;
@@ -57,6 +59,7 @@ pub struct Engine {
     evaluate: Evaluate,
     survey: Survey,
     run: Run,
+    export: Export,
 }
 
 /// Each buffer is lent by its ends, and no two that a call is lent overlap: Rust's references see to that.
@@ -101,5 +104,9 @@ impl Engine {
                 numbers.len(),
             )
         }
+    }
+
+    pub fn export(&self, map: &[u8], text: &mut [u8], numbers: &mut [usize]) -> u8 {
+        unsafe { (self.export)(map.as_ptr(), map.len(), text.as_mut_ptr(), text.len(), numbers.as_mut_ptr(), numbers.len()) }
     }
 }

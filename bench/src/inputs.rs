@@ -2,7 +2,7 @@
 //! tapes.
 
 use crate::families::Family;
-use crate::lent::{Buffer, Lent};
+use crate::lent::{Buffer, Call, Lent};
 use crate::random::Random;
 
 pub const SIZES: [usize; 3] = [64, 256, 1024];
@@ -13,6 +13,9 @@ pub const GATES_PER_GROUP: usize = 131_072;
 
 /// So many of them are run.
 pub const RUN_MAPS: usize = 5;
+
+/// No map's text has more bytes for each of its gates.
+pub const TEXT_PER_GATE: usize = 139;
 
 /// What part of a tape is done where instructions are counted.
 const SAMPLE_PART: usize = 8;
@@ -51,9 +54,10 @@ impl Input {
         self.tape(tape).len() / 4
     }
 
-    /// What the calls are lent.
-    pub fn lent(&self, tape: Tape) -> Lent {
+    /// What a call is lent. Only Export gets memory for a text: that is long, and the maps of other calls would lie further apart.
+    pub fn lent(&self, call: Call, tape: Tape) -> Lent {
         let memory = vec![0xaa; self.gates];
+        let text = vec![0xaa; if call == Call::Export { TEXT_PER_GATE * self.gates } else { 0 }];
         Lent {
             map: Buffer::new(&self.map, 0xaa),
             row: Buffer::new(&self.row, 0xaa),
@@ -61,6 +65,7 @@ impl Input {
             tape: Buffer::new(self.tape(tape), 0xaa),
             out: Buffer::new(&memory, 0xaa),
             answer: Buffer::new(&memory, 0xaa),
+            text: Buffer::new(&text, 0xaa),
             numbers: Buffer::new(&[9999; 4], 9999),
         }
     }

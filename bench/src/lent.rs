@@ -8,9 +8,10 @@ pub enum Call {
     Evaluate,
     Survey,
     Run,
+    Export,
 }
 
-pub const CALLS: [Call; 4] = [Call::Check, Call::Evaluate, Call::Survey, Call::Run];
+pub const CALLS: [Call; 5] = [Call::Check, Call::Evaluate, Call::Survey, Call::Run, Call::Export];
 
 /// Elements that must stay as they are follow each lent part.
 const GUARD: usize = 16;
@@ -47,6 +48,7 @@ pub struct Lent {
     /// Output of evaluate and survey, work memory of a run.
     pub out: Buffer<u8>,
     pub answer: Buffer<u8>,
+    pub text: Buffer<u8>,
     pub numbers: Buffer<usize>,
 }
 
@@ -61,6 +63,7 @@ impl Lent {
             Call::Evaluate => engine.evaluate(map, self.row.get(), out),
             Call::Survey => engine.survey(map, self.configuration.get(), out, numbers),
             Call::Run => engine.run(map, self.configuration.get_mut(), self.tape.get(), out, self.answer.get_mut(), numbers),
+            Call::Export => engine.export(map, self.text.get_mut(), numbers),
         }
     }
 
@@ -73,6 +76,7 @@ impl Lent {
             ("tape", &self.tape),
             ("output or work", &self.out),
             ("answer", &self.answer),
+            ("text", &self.text),
         ];
         let mut lines: Vec<String> = bytes.iter().map(|(name, buffer)| format!("{}, {} lent: {:?}", name, buffer.len, buffer.elements)).collect();
         lines.push(format!("numbers, {} lent: {:?}", self.numbers.len, self.numbers.elements));

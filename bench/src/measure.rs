@@ -29,6 +29,7 @@ fn measure_group(work: Work, group: &[Input]) -> Pair {
         Work::Check => per_call(group, Call::Check),
         Work::Evaluate => per_call(group, Call::Evaluate),
         Work::Survey => per_call(group, Call::Survey),
+        Work::Export => per_call(group, Call::Export),
     }
 }
 
@@ -36,7 +37,7 @@ fn measure_group(work: Work, group: &[Input]) -> Pair {
 fn per_move(group: &[Input], tape: Tape) -> Pair {
     let mut total = [0.0; 2];
     for input in group {
-        let mut lent = input.lent(tape);
+        let mut lent = input.lent(Call::Run, tape);
         let least = least_times(|engine| time_run(engine, input, &mut lent));
         total = [total[0] + least[0], total[1] + least[1]];
     }
@@ -54,7 +55,7 @@ fn time_run(engine: &Engine, input: &Input, lent: &mut Lent) -> Duration {
 
 /// One slice of time is a call on each map in turn. These calls change nothing that they read, so nothing is put back.
 fn per_call(group: &[Input], call: Call) -> Pair {
-    let mut all: Vec<Lent> = group.iter().map(|input| input.lent(Tape::DownUp)).collect();
+    let mut all: Vec<Lent> = group.iter().map(|input| input.lent(call, Tape::DownUp)).collect();
     let least = least_times(|engine| {
         let begin = Instant::now();
         for lent in &mut all {

@@ -9,9 +9,10 @@ pub enum Work {
     Check,
     Evaluate,
     Survey,
+    Export,
 }
 
-pub const WORKS: [Work; 5] = [Work::Run(Tape::DownUp), Work::Run(Tape::Greedy), Work::Check, Work::Evaluate, Work::Survey];
+pub const WORKS: [Work; 6] = [Work::Run(Tape::DownUp), Work::Run(Tape::Greedy), Work::Check, Work::Evaluate, Work::Survey, Work::Export];
 
 impl Work {
     pub fn name(self) -> &'static str {
@@ -21,6 +22,7 @@ impl Work {
             Work::Check => "Check",
             Work::Evaluate => "Evaluate",
             Work::Survey => "Survey",
+            Work::Export => "Export",
         }
     }
 }

@@ -21,7 +21,7 @@ pub fn verify(seed: u64) -> Result<(), String> {
 }
 
 fn verify_calls(input: &Input) -> Result<(), String> {
-    for call in [Call::Check, Call::Evaluate, Call::Survey] {
+    for call in [Call::Check, Call::Evaluate, Call::Survey, Call::Export] {
         accepted(input, TAPES[0], call)?;
     }
     Ok(())
@@ -39,7 +39,7 @@ fn verify_runs(input: &Input) -> Result<(), String> {
 
 /// The numbers of a call's answer.
 fn accepted(input: &Input, tape: inputs::Tape, call: Call) -> Result<Vec<usize>, String> {
-    let (number, after) = compare(&input.lent(tape), call)?;
+    let (number, after) = compare(&input.lent(call, tape), call)?;
     if number != 0 {
         return Err(format!("{:?} refuses it with {}", call, number));
     }
