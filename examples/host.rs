@@ -1,7 +1,7 @@
 //! A host in Rust: the README's full adder through every call, and the smallest map on which a run is stuck. Prints what the calls give.
 
 use peeriewick::kind::{AND, INPUT, NOT, OR, XOR};
-use peeriewick::{check, children, entry, evaluate, export, make_move, mark, run, survey, Ending, Outcome, Refused};
+use peeriewick::{check, children, entry, evaluate, export, make_move, mark, run, survey, Ending, Outcome, Refused, LONGEST_TEXT};
 
 const MAP: [u8; 68] = [
     12, 0, 8, 0, 44, 0, 10, 0, 64, 0, 1, 0, // contents
@@ -45,7 +45,7 @@ fn show_stuck() -> Result<(), Refused> {
 
 /// Export of the adder, and a call that is refused as its memory is a byte too short.
 fn show_export() -> Result<(), Refused> {
-    let mut text = vec![0; 141_716]; // holds any map's text
+    let mut text = vec![0; LONGEST_TEXT];
     let length = export(&MAP, &mut text)?;
     println!("export: {length} bytes");
     print!("{}", String::from_utf8_lossy(&text[..length]));
