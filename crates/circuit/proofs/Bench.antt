@@ -4,13 +4,13 @@ use mathlib.Core.Path.{refl}
 use Rattle.folds.specs.Folds.{◌and◌, ◌or◌, all_below, descend}
 use Rattle.circuit.specs.Circuit.{justified}
 use Rattle.circuit.specs.Evaluate.{inputs_before, values, evaluate, mark, differ}
-use Rattle.circuit.specs.Survey.{spread, reasons, cone, in_front, front, interest, survey, front_size, interest_size}
+use Rattle.circuit.specs.Survey.{spread, reasons, cone, in_front, front, interesting, survey, front_size, interest_set, interest_size}
 use Rattle.circuit.specs.Run.{drawn, down_options, options_left, greedy_options, chosen, entry_chosen, entry_turns, run, answer}
-use Rattle.circuit.specs.Bench.{adder, circuit_p9, circuit_p11, nand, gap, nots, clash, choice, inner, all, vote, Examples}
+use Rattle.circuit.specs.Bench.{adder, circuit_p9, circuit_p11, circuit_f5, nand, gap, nots, clash, choice, inner, all, vote, Examples}
 
 -- every definition that the examples compute with, under one name
 opened : ℕ
-unfolding ◌and◌ ◌or◌ all_below descend justified inputs_before values evaluate mark differ spread reasons cone in_front front interest survey front_size interest_size drawn down_options options_left greedy_options chosen entry_chosen entry_turns run answer adder circuit_p9 circuit_p11 nand gap nots clash choice inner all vote
+unfolding ◌and◌ ◌or◌ all_below descend justified inputs_before values evaluate mark differ spread reasons cone in_front front interesting survey front_size interest_set interest_size drawn down_options options_left greedy_options chosen entry_chosen entry_turns run answer adder circuit_p9 circuit_p11 circuit_f5 nand gap nots clash choice inner all vote
 opened = 0
 
 pub examples : Examples
@@ -22,6 +22,9 @@ examples = record {
   front_and_below = refl;
   and_at_zero = refl;
   not_below = refl;
+  nots_left_out = refl;
+  others_counted = refl;
+  voter_counted = refl;
   and_wrong_alone = refl;
   xor_options = refl;
   voter_by_two = refl;
@@ -35,6 +38,7 @@ examples = record {
   up_on_uncoded = refl;
   greedy_turns = refl;
   greedy_ties = refl;
+  greedy_by_weight = refl;
   found_without_entry = refl;
   found_at_once = refl;
   two_moves = refl;

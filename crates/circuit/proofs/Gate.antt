@@ -20,7 +20,7 @@ use Rattle.folds.proofs.Tests.{which, and_left, and_right, and_both, or_cases, o
 use Rattle.circuit.specs.Tools.{same, Rising}
 use Rattle.circuit.specs.declared.Kind.{Kind}
 use Rattle.circuit.specs.declared.Kind.TheVariants.{Input, Not, And, Or, Xor, Voter}
-use Rattle.circuit.specs.Gate.{is_input, fan_in_fits, all_on, some_on, odd_on, count_on, gives, relevant, singly, order}
+use Rattle.circuit.specs.Gate.{is_input, fan_in_fits, all_on, some_on, odd_on, count_on, gives, relevant, carries_weight, singly, order}
 use Rattle.circuit.specs.Source001.{AtLeastTwo, Functions}
 use Rattle.circuit.proofs.Values.{agree, unequal, same_refl, same_not}
 use Rattle.circuit.proofs.Lists.{select_in, select_length, select_one, singles_in, singles_out}
@@ -197,6 +197,26 @@ no_part And v b i e = false≢true i
 no_part Or v b i e = false≢true i
 no_part Xor v b i e = false≢true i
 no_part Voter v b i e = false≢true i
+
+-- all but NOT gates carry weight, and those have a child
+weighs : (k : Kind) → ¬ (k ≡ Not) → carries_weight k ≡ true
+weighs Input n = refl
+weighs Not n = absurd (n refl)
+weighs And n = refl
+weighs Or n = refl
+weighs Xor n = refl
+weighs Voter n = refl
+
+pub weight_is : (k : Kind) → (carries_weight k ≡ true) ↔ ¬ (k ≡ Not)
+weight_is k = (λ e z. false≢true (rw z at e), weighs k)
+
+pub weightless_child : (k : Kind) (n : ℕ) → carries_weight k ≡ false → fan_in_fits k n ≡ true → 1 ≤ n
+weightless_child Input n w f = absurd (true≢false w)
+weightless_child Not n w f = omega (arith, eqb-true n 1 f)
+weightless_child And n w f = absurd (true≢false w)
+weightless_child Or n w f = absurd (true≢false w)
+weightless_child Xor n w f = absurd (true≢false w)
+weightless_child Voter n w f = absurd (true≢false w)
 
 -- ---- 001's functions
 

@@ -19,8 +19,8 @@ use Rattle.circuit.specs.Evaluate.{KeepsCodes}
 use Rattle.circuit.specs.Survey.{front, front_size, interest_size}
 use Rattle.circuit.specs.declared.Entry.{Entry}
 use Rattle.circuit.specs.Run.{drawn, down_options, turns_no_coded, options_left, turn, greedy_options, Chosen, option, itself, stuck, none_left, one_of, chosen, turned_by, is_stuck, entry_chosen, entry_turns, move}
-use Rattle.circuit.specs.Source001.{OptionOf, Front}
-use Rattle.circuit.specs.Promise.{NoFront, GreedyOptionsAre, LeftOption, NoneLeft, DownTurns, OptionTurned, ChoiceDoes, StuckAt, EntryDoes, MoveIs}
+use Rattle.circuit.specs.Source001.{NoFront, OptionOf, Front}
+use Rattle.circuit.specs.Promise.{GreedyOptionsAre, LeftOption, NoneLeft, DownTurns, OptionTurned, ChoiceDoes, StuckAt, EntryDoes, MoveIs}
 use Rattle.circuit.proofs.Lists.{select_in, in_select, select_sub, all_in, in_all, some_fails, least, in_length, some_is_empty, is_empty_none, pick_in, sub_length}
 use Rattle.circuit.proofs.Gate.{narrow}
 use Rattle.circuit.proofs.Cone.{unjustified_seen, is_in_front}

@@ -1,24 +1,25 @@
 -- The survey is that of source document 001. Assumes nothing.
-use Prim.Native.Nat.{ℕ, ◌<◌}
+use Prim.Native.Nat.{ℕ, zero, suc, ◌<◌}
 use mathlib.Core.Path.{◌≡◌, refl, sym, ◌∙◌}
-use mathlib.Core.Logic.{inl, inr}
+use mathlib.Core.Logic.{inl, inr, ◌↔◌}
 use mathlib.Core.Bool.{Bool, true, not, true≢false}
-use mathlib.Core.List.{List}
+use mathlib.Core.List.{List, [], ◌∷◌}
+use mathlib.Core.List.Memᴰ.{head as here}
 use mathlib.Core.List.Memᴰ.{not-nil as nowhere}
 use mathlib.Core.List.{Memᴰ as In}
 use native.Mathlib.Omega.{arith}
-use lib.ListN.{get_or, length-map}
+use lib.ListN.{length, get_or, length-map}
 use lib.Dec.{eqb}
 use borrow.Author.Tests.{not-true, eqb-false, ne_eqb}
 use Rattle.folds.proofs.Tests.{which, and_left, and_right, and_both}
 use Rattle.circuit.specs.Tools.{up_to}
-use Rattle.circuit.specs.Gate.{is_input, relevant}
+use Rattle.circuit.specs.Gate.{is_input, relevant, carries_weight}
 use Rattle.circuit.specs.Circuit.{Circuit, coded, gates_in, WellFormed, on, justified}
 use Rattle.circuit.specs.Evaluate.{differ}
-use Rattle.circuit.specs.Survey.{reasons, cone, in_front, front, interest, survey, front_size, interest_size}
-use Rattle.circuit.specs.Source001.{first, then, Descendant, child, further, Brings, Cone, Front, Interesting, Lists, RelevantIs001, InputsInOrder, DifferIs, SurveyOf001, SurveyIs001}
-use Rattle.circuit.proofs.Lists.{select_in, in_select, select_sub, sub_rising, in_up_to, up_to_in, length_up_to, rising_up_to, map_at}
-use Rattle.circuit.proofs.Gate.{laws, no_part}
+use Rattle.circuit.specs.Survey.{reasons, cone, in_front, front, interesting, survey, front_size, interest_set, interest_size}
+use Rattle.circuit.specs.Source001.{first, then, Descendant, child, further, Brings, Cone, Front, Interesting, InterestSet, NoFront, Lists, Size, RelevantIs001, InputsInOrder, DifferIs, SurveyOf001, SurveyIs001}
+use Rattle.circuit.proofs.Lists.{some_is_empty, in_length, pick_in, select_in, in_select, select_sub, sub_rising, in_up_to, up_to_in, length_up_to, rising_up_to, map_at}
+use Rattle.circuit.proofs.Gate.{laws, no_part, weight_is, weightless_child}
 use Rattle.circuit.proofs.Spread.{spread_start, spread_closed, spread_least}
 use Rattle.circuit.proofs.Cone.{justified_seen, cone_coded, cone_child}
 use Rattle.circuit.proofs.Source001.{justified_is}
@@ -33,6 +34,17 @@ lists_set c p P to from = record {
     λ h. (let (l, q) = from x h in in_select p x (up_to c.gates) (up_to_in x c.gates l) q),
   );
 }
+
+-- a set of size 0 has no element
+pub none_sized : (P : ℕ → Type 0) (n : ℕ) → Size P n → (n ≡ 0) ↔ ((x : ℕ) → ¬ P x)
+none_sized P n z = (
+  λ e x p. (let l = in_length x z.elements ((z.lists.has x).1 p) in omega (arith, z.many)),
+  λ f. z.many ∙ no_element z.elements (λ x m. f x ((z.lists.has x).0 m)),
+)
+  where
+    no_element : (xs : List ℕ) → ((x : ℕ) → ¬ In x xs) → length xs ≡ 0
+    no_element [] f = refl
+    no_element (x ∷ xs) f = absurd (f x (here refl))
 
 pub inputs_in_order : InputsInOrder
 inputs_in_order c = lists_set c (λ g. is_input (c.kind g)) _ (λ x h q. (h, q)) (λ x p. p)
@@ -111,27 +123,57 @@ module _ (c : Circuit) (ok : WellFormed c) (s : List ℕ) where
   below_interesting g x (inl f) i = inr (g, f, child i)
   below_interesting g x (inr d) i = inr (d.0, d.1, further d.2 i)
 
-  interest_to : (x : ℕ) → x < c.gates → interest c s x ≡ true → Interesting c s x
-  unfolding interest
+  interest_to : (x : ℕ) → x < c.gates → interesting c s x ≡ true → Interesting c s x
+  unfolding interesting
   interest_to x h e = spread_least c.kids c.gates (in_front c s) (λ y. y < c.gates → Interesting c s y)
       (λ y q l. inl (front_to y l q))
       (λ g l p y i w. below_interesting g y (p l) i) x e h
 
-  interest_front : (x : ℕ) → Front c s x → (x < c.gates) × (interest c s x ≡ true)
-  unfolding interest
+  interest_front : (x : ℕ) → Front c s x → (x < c.gates) × (interesting c s x ≡ true)
+  unfolding interesting
   interest_front x f = ((front_from x f).0, spread_start c.kids c.gates (in_front c s) x (front_from x f).1)
 
-  interest_child : (g x : ℕ) → (g < c.gates) × (interest c s g ≡ true) → In x (c.kids g) → (x < c.gates) × (interest c s x ≡ true)
-  unfolding interest
+  interest_child : (g x : ℕ) → (g < c.gates) × (interesting c s g ≡ true) → In x (c.kids g) → (x < c.gates) × (interesting c s x ≡ true)
+  unfolding interesting
   interest_child g x p i = (let w = ok.below g p.0 x i in omega (arith, p.0), spread_closed c.kids c.gates ok.below (in_front c s) g p.0 p.1 x i)
 
-  interest_below : (g x : ℕ) → (g < c.gates) × (interest c s g ≡ true) → Descendant c g x → (x < c.gates) × (interest c s x ≡ true)
+  interest_below : (g x : ℕ) → (g < c.gates) × (interesting c s g ≡ true) → Descendant c g x → (x < c.gates) × (interesting c s x ≡ true)
   interest_below g x p (child i) = interest_child g x p i
   interest_below g x p (further {y} d i) = interest_child y x (interest_below g y p d) i
 
-  interest_from : (x : ℕ) → Interesting c s x → (x < c.gates) × (interest c s x ≡ true)
+  pub interest_from : (x : ℕ) → Interesting c s x → (x < c.gates) × (interesting c s x ≡ true)
   interest_from x (inl f) = interest_front x f
   interest_from x (inr d) = interest_below d.0 x (interest_front d.0 d.1) d.2
+
+  -- ---- the size of the interest set
+
+  set_to : (x : ℕ) → x < c.gates → interest_set c s x ≡ true → InterestSet c s x
+  unfolding interest_set
+  set_to x h e = (interest_to x h (and_left _ _ e), (weight_is (c.kind x)).0 (and_right _ _ e))
+
+  set_from : (x : ℕ) → InterestSet c s x → (x < c.gates) × (interest_set c s x ≡ true)
+  unfolding interest_set
+  set_from x p = let (h, e) = interest_from x p.0 in (h, and_both _ _ e ((weight_is (c.kind x)).1 p.1))
+
+  interest_sized : Size (InterestSet c s) (interest_size c s)
+  unfolding interest_size
+  interest_sized = record { elements = gates_in c (interest_set c s); lists = lists_set c (interest_set c s) (InterestSet c s) set_to set_from; many = refl }
+
+  -- an interesting gate carries weight, or one below it does
+  some_in_set : (n x : ℕ) → x < n → Interesting c s x → (y : ℕ) × InterestSet c s y
+  some_in_set zero x l t = absurd (omega arith)
+  some_in_set (suc n) x l t = elim (which (carries_weight (c.kind x))) [
+    | inl q ↦ (x, (t, (weight_is (c.kind x)).0 q))
+    | inr q ↦ (let h = (interest_from x t).0 in
+        let i = pick_in (c.kids x) 0 0 (some_is_empty (c.kids x) (weightless_child (c.kind x) (length (c.kids x)) q (ok.fits x h))) in
+        some_in_set n _ (omega (arith, ok.below x h _ i)) (below_interesting x _ t i))
+  ]
+
+  no_interest : (interest_size c s ≡ 0) ↔ NoFront c s
+  no_interest = (
+    λ e g f. (let (y, p) = some_in_set (suc g) g (omega arith) (inl f) in (none_sized _ _ interest_sized).0 e y p),
+    λ n. (none_sized _ _ interest_sized).1 (λ x p. elim p.0 [ inl f ↦ n x f | inr d ↦ n d.0 d.1 ]),
+  )
 
   -- ---- the survey
 
@@ -140,20 +182,17 @@ module _ (c : Circuit) (ok : WellFormed c) (s : List ℕ) where
   front_lists = lists_set c (in_front c s) (Front c s) front_to front_from
 
   surveyed : SurveyOf001 c s
-  unfolding survey front_size interest_size
+  unfolding survey front_size
   surveyed = record {
     cone_is = λ g h. (cone_to g h, λ t. (cone_from g t).1);
     front_is = λ g h. (front_to g h, λ t. (front_from g t).1);
-    interest_is = λ g h. (interest_to g h, λ t. (interest_from g t).1);
+    interesting_is = λ g h. (interest_to g h, λ t. (interest_from g t).1);
     long = length-map (up_to c.gates) _ ∙ length_up_to c.gates;
     bytes = λ g h. map_at _ c.gates g 0 h;
     listed = front_lists;
     size_of_front = record { elements = front c s; lists = front_lists; many = refl };
-    size_of_interest = record {
-      elements = gates_in c (interest c s);
-      lists = lists_set c (interest c s) (Interesting c s) interest_to interest_from;
-      many = refl;
-    };
+    size_of_interest = interest_sized;
+    no_interest = no_interest;
   }
 
 pub survey_is : SurveyIs001

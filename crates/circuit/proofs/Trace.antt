@@ -16,8 +16,8 @@ use Rattle.circuit.specs.Evaluate.{Satisfying, KeepsCodes, differ}
 use Rattle.circuit.specs.Survey.{front, front_size}
 use Rattle.circuit.specs.declared.Entry.{Entry}
 use Rattle.circuit.specs.Run.{is_stuck, entry_chosen, move, EndingValues, told, RunResult, stop, after, run, answer}
-use Rattle.circuit.specs.Source001.{Front, Size}
-use Rattle.circuit.specs.Promise.{NoFront, StuckAt, EntryDoes, config, differences, AllBefore, AtFound, AtStuck, EndsAt, RunPromised, InputsAreFree, Demand2OnCircuits}
+use Rattle.circuit.specs.Source001.{NoFront, Front, Size}
+use Rattle.circuit.specs.Promise.{StuckAt, EntryDoes, config, differences, AllBefore, AtFound, AtStuck, EndsAt, RunPromised, InputsAreFree, Demand2OnCircuits}
 use Rattle.circuit.proofs.Lists.{some_length, at_place}
 use Rattle.circuit.proofs.Found.{answer_is, free_satisfies, answer_satisfies}
 use Rattle.circuit.proofs.Gate.{functions}

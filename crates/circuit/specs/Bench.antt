@@ -8,7 +8,7 @@ use Rattle.circuit.specs.declared.Ending.TheVariants.{Found, Spent, Stuck}
 use Rattle.circuit.specs.declared.Kind.TheVariants.{Input, Not, And, Or, Xor, Voter}
 use Rattle.circuit.specs.Circuit.{Circuit}
 use Rattle.circuit.specs.Evaluate.{evaluate, mark, differ}
-use Rattle.circuit.specs.Survey.{survey}
+use Rattle.circuit.specs.Survey.{survey, interest_size}
 use Rattle.circuit.specs.declared.Entry.{Entry}
 use Rattle.circuit.specs.Run.{down_options, entry_turns, stop, run, answer}
 
@@ -135,6 +135,18 @@ vote = record {
   code = λ g. cond (eqb g 3) (some true) none;
 }
 
+-- F-5's example: 0, 1, 2 inputs; 3 AND(0,1); 4 NOT(2); 5 NOT(4); 6 NOT(5); 7 OR(3,6); code 7 = 1
+unfoldable pub circuit_f5 : Circuit
+circuit_f5 = record {
+  gates = 8;
+  kind = λ g. get_or (Input ∷ Input ∷ Input ∷ And ∷ Not ∷ Not ∷ Not ∷ Or ∷ []) g Input;
+  kids = λ g. get_or ([] ∷ [] ∷ [] ∷ pair 0 1 ∷ one 2 ∷ one 4 ∷ one 5 ∷ pair 3 6 ∷ []) g [];
+  code = λ g. cond (eqb g 7) (some true) none;
+}
+
+abbrev pub D : List ℕ
+D = 0 ∷ 0 ∷ 1 ∷ 0 ∷ 0 ∷ 1 ∷ 0 ∷ 1 ∷ []
+
 -- "every draw is 0; "down 3" is kind down with option 3"
 abbrev pub entry : Choice → Entry
 entry h = record { draw = 0; choice = h }
@@ -155,8 +167,12 @@ pub record Examples : Type 0 where
   pub front_and_below : survey adder A ≡ 4 ∷ 4 ∷ 1 ∷ 7 ∷ 0 ∷ 1 ∷ 0 ∷ 1 ∷ []
   -- Of an AND at 0 in the cone only the child at 0 counts. None of P1 to P12 would tell if all of them counted.
   pub and_at_zero : survey nand (0 ∷ 1 ∷ 0 ∷ 1 ∷ []) ≡ 1 ∷ 0 ∷ 1 ∷ 1 ∷ []
-  -- P9's start: a NOT is interesting like others.
+  -- P9's start: a NOT is interesting like others. F-5: it isn't counted in the size, which is that of gates 0 and 2.
   pub not_below : survey circuit_p9 (0 ∷ 0 ∷ 1 ∷ []) ≡ 4 ∷ 4 ∷ 7 ∷ []
+  pub nots_left_out : interest_size circuit_p9 (0 ∷ 0 ∷ 1 ∷ []) ≡ 2
+  -- All other kinds are counted: those of the adder but for gate 6, which isn't below gate 7, and a voter.
+  pub others_counted : interest_size adder C ≡ 7
+  pub voter_counted : interest_size vote (0 ∷ 0 ∷ 0 ∷ 1 ∷ []) ≡ 4
   -- AND at 1 turns its wrong children and no other; XOR has an option for each child.
   pub and_wrong_alone : down_options circuit_p9 (1 ∷ 0 ∷ 1 ∷ []) 2 ≡ one 1 ∷ []
   pub xor_options : down_options adder A 3 ≡ one 0 ∷ one 1 ∷ []
@@ -177,6 +193,8 @@ pub record Examples : Type 0 where
   -- P6: greedy's option is modulo the options that tie: there one alone, and two from A.
   pub greedy_turns : entry_turns adder C (entry (Greedy 1)) ≡ one 4
   pub greedy_ties : entry_turns adder A (entry (Greedy 1)) ≡ one 1
+  -- F-5: three NOT gates over an input count less than an AND over two, 1 and 3.
+  pub greedy_by_weight : entry_turns circuit_f5 D (entry (Greedy 0)) ≡ one 6
   -- The front is tested before the first move, also where there is no entry (P8).
   pub found_without_entry : run adder B [] ≡ stop Found B
   pub found_at_once : run adder B (entry (Down 0) ∷ []) ≡ stop Found B

@@ -108,6 +108,15 @@ relevant Or false x = true
 relevant Xor v x = true
 relevant Voter v x = same x v
 
+-- F-5: "An interest set's size leaves NOT gates out": does a gate of this kind count in it?
+abbrev pub carries_weight : Kind → Bool
+carries_weight Input = true
+carries_weight Not = false
+carries_weight And = true
+carries_weight Or = true
+carries_weight Xor = true
+carries_weight Voter = true
+
 -- ---- Options and moves
 
 -- the children that have not the value v, in order

@@ -1,21 +1,19 @@
--- Demands 2 and 3 of document 00 and requests F-1 and F-3 of document 02 as lemmas about circuits; proofs/Moves.antt, proofs/Trace.antt, proofs/Finish.antt and proofs/Unchanged.antt prove
+-- Demands 2 and 3 of document 00 and requests F-1, F-3 and F-5 of document 02 as lemmas about circuits; proofs/Moves.antt, proofs/Trace.antt, proofs/Finish.antt and proofs/Unchanged.antt prove
 -- them. The demands themselves speak of Run on bytes. Assumes nothing.
 use Rattle.std.specs.Prelude.{ℕ, zero, suc, ◌+◌, ◌≤◌, ◌<◌, ◌%◌, ◌≡◌, ◌⊎◌, ◌↔◌, Bool, true, false, cond, length, get_or}
 use mathlib.Core.List.{List, [], ◌∷◌, map, Memᴰ as In, Sublistᴰ as InOrder}
 use Rattle.circuit.specs.declared.Choice.{Choice}
 use Rattle.circuit.specs.declared.Choice.TheVariants.{Greedy, Down, Up}
-use Rattle.circuit.specs.declared.Ending.TheVariants.{Found, Spent}
+use Rattle.circuit.specs.declared.Ending.TheVariants.{Found, Spent, Stuck}
+use Rattle.circuit.specs.declared.Kind.TheVariants.{Not}
 use Rattle.circuit.specs.Gate.{is_input}
 use Rattle.circuit.specs.Tools.{is_empty, pick}
-use Rattle.circuit.specs.Circuit.{Circuit, coded, WellFormed, Configuration, on, justified}
+use Rattle.circuit.specs.Circuit.{Circuit, coded, gates_in, WellFormed, Configuration, on, justified}
 use Rattle.circuit.specs.Evaluate.{Obeys, Satisfying, Satisfiable, KeepsCodes, differ}
-use Rattle.circuit.specs.Survey.{front, front_size, interest_size}
+use Rattle.circuit.specs.Survey.{front, interesting, front_size, interest_size}
 use Rattle.circuit.specs.declared.Entry.{Entry}
-use Rattle.circuit.specs.Run.{drawn, down_options, options_left, turn, greedy_options, Chosen, option, itself, stuck, entry_chosen, entry_turns, move, EndingValues, told, RunResult, ends_found, stop, after, run, answer}
-use Rattle.circuit.specs.Source001.{OptionOf, Cone, Front, TurnsExactly, Size, SmallestIs, Functions, JustifiedIs001, RelevantIs001, DownOptionsAre001, DownOptionsInOrder, PairsAreSet, OptionsJustify, InputsInOrder, DifferIs, SurveyIs001}
-
-abbrev pub NoFront : Circuit → List ℕ → Type 0
-NoFront c s = (g : ℕ) → ¬ Front c s g
+use Rattle.circuit.specs.Run.{drawn, down_options, options_left, turn, lightest, greedy_options, Chosen, option, itself, stuck, one_of, turned_by, is_stuck, entry_chosen, entry_turns, move, EndingValues, told, RunResult, ends_found, stop, after, run, answer}
+use Rattle.circuit.specs.Source001.{OptionOf, Cone, Front, NoFront, TurnsExactly, Size, SmallestIs, Functions, JustifiedIs001, RelevantIs001, DownOptionsAre001, DownOptionsInOrder, PairsAreSet, OptionsJustify, InputsInOrder, DifferIs, SurveyIs001}
 
 -- ---- one move
 
@@ -28,7 +26,7 @@ pub record PickedFrom (os : List (List ℕ)) (P : List ℕ → Type 0) (xs : Lis
   pub has : (o : List ℕ) → In o xs ↔ (In o os × P o)
   pub in_order : InOrder xs os
 
--- Greedy picks from "the options with the smallest interest set after the move, in rising order".
+-- Greedy picks from "the options with the smallest interest set after the move, in rising order". F-5: "Greedy choices compare the new size.", that of 001's set (`SurveyIs001`).
 abbrev pub GreedyOptionsAre : Type 0
 GreedyOptionsAre =
     (c : Circuit) (s : List ℕ) (os : List (List ℕ))
@@ -56,7 +54,7 @@ pub record DownTurns (c : Circuit) (s : List ℕ) (g i : ℕ) (o : List ℕ) : T
   pub left : LeftOption c s g o
   pub option_place : StandsAt (options_left c s g) i o
 
--- the gates o that greedy with option i turns
+-- the gates o that greedy with option i turns: F-5 has the size without NOT gates
 pub record GreedyTurns (c : Circuit) (s : List ℕ) (g i : ℕ) (o : List ℕ) : Type 0 where
   pub left : LeftOption c s g o
   pub smallest : (p : List ℕ) → LeftOption c s g p → interest_size c (turn o s) ≤ interest_size c (turn p s)
@@ -218,7 +216,7 @@ RunPromised c s es r = Promised c s es (config c s es) (told r.outcome.ending) r
 --     functions, justified           "NOT, AND, OR and XOR mean what 001 says", a voter what F-3 says, and so does justified
 --     relevant                       the parts of subset-minimal justifications
 --     smallest                       what a smallest set is, for the cone
---     surveys                        "Cone, front and interest set are those of source document 001, save two differences"
+--     surveys                        "Cone, front and interest set are those of source document 001, save two differences", the second by F-5 "in the mark alone": marks and sizes stand apart
 --     options, order, pairs,         the down options are 001's, in the order of documents 01 and 02; each of F-3's pairs sets both; each option justifies its gate, and
 --     justify                        `turn` turns just its gates
 --     left, greedy                   which of them are left, and what greedy picks from
@@ -285,6 +283,19 @@ pub record FoundFrom (c : Circuit) (s : List ℕ) : Type 0 where
 abbrev pub Demand3OnCircuits : Type 0
 Demand3OnCircuits = (c : Circuit) → WellFormed c → (s : List ℕ) → KeepsCodes c s → FoundFrom c s
 
+-- ---- runs of other moves, to say what a request did not change
+
+-- a run as `run`, but that an entry does what `does` says at the configuration on which it works (`run` goes by `entry_chosen`)
+unfoldable pub run_with : Circuit → (List ℕ → Entry → Chosen) → List ℕ → List Entry → RunResult
+run_with c does s [] = cond (is_empty (front c s)) (stop Found s) (stop (Spent (front_size c s)) s)
+run_with c does s (e ∷ es) = elim (is_empty (front c s)) [
+  | true ↦ stop Found s
+  | false ↦ elim (is_stuck (does s e)) [
+    | true ↦ stop Stuck s
+    | false ↦ (let xs = turned_by (drawn c s e.draw) (does s e) in after (length xs) (run_with c does (turn xs s) es))
+  ]
+]
+
 -- ---- request F-1
 
 -- "Stuck must never occur on a map that some state satisfies.": no entry is stuck, and no run ends so, from any start that keeps the codes.
@@ -299,7 +310,7 @@ SatisfiableNeverStuck = (c : Circuit) → WellFormed c → Satisfiable c → (s 
 abbrev pub NoCodedChild : Circuit → Type 0
 NoCodedChild c = (g : ℕ) → g < c.gates → (x : ℕ) → In x (c.kids g) → coded c x ≡ false
 
--- the gates that a choice turns where gate g is drawn and all options count, and a run of such moves, as document 01 has them without F-1
+-- the gates that a choice turns where gate g is drawn and all options count, and a run of such moves, as they are by document 01 and the other requests, without F-1
 abbrev pub turned_of_all : Circuit → List ℕ → ℕ → Choice → List ℕ
 turned_of_all c s g (Greedy i) = pick (greedy_options c s (down_options c s g)) i []
 turned_of_all c s g (Down i) = pick (down_options c s g) i []
@@ -308,17 +319,13 @@ turned_of_all c s g (Up i) = cond (coded c g) (pick (down_options c s g) i []) (
 unfoldable pub entry_of_all : Circuit → List ℕ → Entry → List ℕ
 entry_of_all c s e = turned_of_all c s (drawn c s e.draw) e.choice
 
-unfoldable pub run_of_all : Circuit → List ℕ → List Entry → RunResult
-run_of_all c s [] = cond (is_empty (front c s)) (stop Found s) (stop (Spent (front_size c s)) s)
-run_of_all c s (e ∷ es) = elim (is_empty (front c s)) [
-  | true ↦ stop Found s
-  | false ↦ after (length (entry_of_all c s e)) (run_of_all c (turn (entry_of_all c s e) s) es)
-]
+abbrev pub run_of_all : Circuit → List ℕ → List Entry → RunResult
+run_of_all c = run_with c (λ s e. option (entry_of_all c s e))
 
 -- Where no coded gate is a child F-1 changes nothing, from any start s that keeps the codes.
 --     all_left     all options are left
---     entries      where the front isn't empty every entry turns what it turned,
---     runs         and every run goes as it went;
+--     entries      where the front isn't empty every entry turns what it turns without F-1,
+--     runs         and every run goes as it goes without it;
 --     no_stuck     nothing is stuck
 pub record AsBefore (c : Circuit) (s : List ℕ) : Type 0 where
   pub all_left : (g : ℕ) → g < c.gates → justified c s g ≡ false → options_left c s g ≡ down_options c s g
@@ -328,3 +335,36 @@ pub record AsBefore (c : Circuit) (s : List ℕ) : Type 0 where
 
 abbrev pub UnchangedWithoutCodedChildren : Type 0
 UnchangedWithoutCodedChildren = (c : Circuit) → WellFormed c → NoCodedChild c → (s : List ℕ) → KeepsCodes c s → AsBefore c s
+
+-- ---- request F-5
+
+-- no gate of the circuit is a NOT gate
+abbrev pub NoNots : Circuit → Type 0
+NoNots c = (g : ℕ) → g < c.gates → ¬ (c.kind g ≡ Not)
+
+-- an interest set's size as it was before F-5: as many gates as have the mark 4
+unfoldable pub size_with_nots : Circuit → List ℕ → ℕ
+size_with_nots c s = length (gates_in c (interesting c s))
+
+-- what a choice did where gate g is drawn, greedy comparing that size
+abbrev pub chosen_with_nots : Circuit → List ℕ → ℕ → Choice → Chosen
+chosen_with_nots c s g (Greedy i) = one_of c g (lightest (λ o. size_with_nots c (turn o s)) (options_left c s g)) i
+chosen_with_nots c s g (Down i) = one_of c g (options_left c s g) i
+chosen_with_nots c s g (Up i) = cond (coded c g) (one_of c g (options_left c s g) i) itself
+
+unfoldable pub entry_with_nots : Circuit → List ℕ → Entry → Chosen
+entry_with_nots c s e = chosen_with_nots c s (drawn c s e.draw) e.choice
+
+-- Where there is no NOT gate F-5 changes nothing, at any configuration,
+pub record AsWithNots (c : Circuit) (s : List ℕ) : Type 0 where
+  pub size : interest_size c s ≡ size_with_nots c s
+  pub entries : (e : Entry) → entry_chosen c s e ≡ entry_with_nots c s e
+  pub runs : (es : List Entry) → run c s es ≡ run_with c (entry_with_nots c) s es
+
+abbrev pub UnchangedWithoutNots : Type 0
+UnchangedWithoutNots = (c : Circuit) → NoNots c → (s : List ℕ) → AsWithNots c s
+
+-- and on any circuit it changes no entry that isn't greedy, and no run without greedy entries.
+pub record UnchangedWithoutGreedy : Type 0 where
+  pub entries : (c : Circuit) (s : List ℕ) (e : Entry) → NotGreedy e.choice → entry_chosen c s e ≡ entry_with_nots c s e
+  pub runs : (c : Circuit) (s : List ℕ) (es : List Entry) → ((e : Entry) → In e es → NotGreedy e.choice) → run c s es ≡ run_with c (entry_with_nots c) s es

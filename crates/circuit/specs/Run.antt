@@ -1,4 +1,4 @@
--- Document 01, 'Options and moves' and 'Run', with request F-1 of document 02. Assumes nothing.
+-- Document 01, 'Options and moves' and 'Run', with requests F-1 and F-5 of document 02. Assumes nothing.
 use Rattle.std.specs.Prelude.{ℕ, suc, ◌+◌, Bool, true, false, cond, not, List, [], ◌∷◌, length, set, leb}
 use Rattle.folds.specs.Folds.{◌and◌}
 use Rattle.circuit.specs.declared.Choice.{Choice}
@@ -42,7 +42,7 @@ turn (x ∷ xs) s = turn xs (set s x (byte (not (on s x))))
 abbrev pub lightest : (List ℕ → ℕ) → List (List ℕ) → List (List ℕ)
 lightest weight os = select (λ o. holds_of_all (λ p. leb (weight o) (weight p)) os) os
 
--- "the options with the smallest interest set after the move, in rising order"
+-- "the options with the smallest interest set after the move, in rising order". F-5: "Greedy choices compare the new size."
 unfoldable pub greedy_options : Circuit → List ℕ → List (List ℕ) → List (List ℕ)
 greedy_options c s os = lightest (λ o. interest_size c (turn o s)) os
 

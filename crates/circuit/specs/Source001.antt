@@ -1,8 +1,7 @@
 -- Section 2 of source document 001 in its own words: justification, cone, front, interest set; and, of section 3, the move of a justification.
--- Document 01's two differences are marked. 001 has no voters, but its notions are for any Boolean function ("can be adapted for a wider range of types"). After it, as statements, that the functions,
--- tables, options and survey of documents 01 and 02 are these:
--- proofs/Gate.antt, proofs/Source001.antt and proofs/Survey.antt prove them.
--- Assumes nothing.
+-- Document 01's two differences are marked; since request F-5 the second is in the mark alone. 001 has no voters, but its notions are for any Boolean function ("can be
+-- adapted for a wider range of types"). After it, as statements, that the functions, tables, options and survey of documents 01 and 02 are these:
+-- proofs/Gate.antt, proofs/Source001.antt and proofs/Survey.antt prove them. Assumes nothing.
 use Rattle.std.specs.Prelude.{ℕ, ◌+◌, ◌*◌, ◌≤◌, ◌<◌, ◌≡◌, ◌⊎◌, ◌↔◌, Bool, true, false, cond, not, length, get_or}
 use Rattle.std.proofs.Math.Option.{Option, none, some}
 use mathlib.Core.List.{List, [], ◌∷◌, map, Memᴰ as In}
@@ -11,7 +10,7 @@ use Rattle.circuit.specs.declared.Kind.TheVariants.{Not, And, Or, Xor, Voter}
 use Rattle.circuit.specs.Gate.{is_input, gives, wrong, Order, together, singly, in_pairs, order}
 use Rattle.circuit.specs.Circuit.{Circuit, coded, WellFormed, Configuration, on, justified}
 use Rattle.circuit.specs.Evaluate.{inputs, differ}
-use Rattle.circuit.specs.Survey.{reasons, cone, in_front, front, interest, survey, front_size, interest_size}
+use Rattle.circuit.specs.Survey.{reasons, cone, in_front, front, interesting, survey, front_size, interest_size}
 use Rattle.circuit.specs.Run.{down_options, turn}
 
 -- ---- assignments
@@ -137,10 +136,18 @@ module _ (c : Circuit) where
     abbrev pub Front : ℕ → Type 0
     Front g = Cone g × ¬ Justified g
 
-    -- "it belongs to the frontier .. or is a descendant of a gate in it". Difference 2: "NOT gates count like
-    -- others (001 leaves them out)".
+    -- "A gate g is interesting in τ if it belongs to the frontier .. or is a descendant of a gate in it". Difference 2, since F-5 "in the mark alone": "NOT gates count
+    -- like others (001 leaves them out)". The mark 4 goes by this.
     abbrev pub Interesting : ℕ → Type 0
     Interesting x = Front x ⊎ ((g : ℕ) × Front g × Descendant c g x)
+
+    -- "the set of all gates that are interesting in τ is denoted by interest(..)", and by "A Note on Negations" "NOT-gates are .. never counted in an interest set". The
+    -- size goes by this.
+    abbrev pub InterestSet : ℕ → Type 0
+    InterestSet x = Interesting x × ¬ (c.kind x ≡ Not)
+
+    abbrev pub NoFront : Type 0
+    NoFront = (g : ℕ) → ¬ Front g
 
 -- ---- the statements
 
@@ -244,16 +251,18 @@ pub record Size (P : ℕ → Type 0) (n : ℕ) : Type 0 where
 abbrev pub DifferIs : Type 0
 DifferIs = (c : Circuit) (s a : List ℕ) → Size (λ g. (g < c.gates) × ¬ (get_or s g 0 ≡ get_or a g 0)) (differ c s a)
 
--- Cone, front and interest set as sets, Survey's bytes and sizes, and the list from which a move draws
+-- Cone, front and interesting gates as sets, Survey's bytes and sizes, and the list from which a move draws. By F-5 mark and size stand apart: a NOT gate that is interesting
+-- has the mark 4, and the size is that of 001's own set. It is 0 exactly where the front is empty.
 pub record SurveyOf001 (c : Circuit) (s : List ℕ) : Type 0 where
   pub cone_is : (g : ℕ) → g < c.gates → (cone c s g ≡ true) ↔ Cone c s g
   pub front_is : (g : ℕ) → g < c.gates → (in_front c s g ≡ true) ↔ Front c s g
-  pub interest_is : (g : ℕ) → g < c.gates → (interest c s g ≡ true) ↔ Interesting c s g
+  pub interesting_is : (g : ℕ) → g < c.gates → (interesting c s g ≡ true) ↔ Interesting c s g
   pub long : length (survey c s) ≡ c.gates
-  pub bytes : (g : ℕ) → g < c.gates → get_or (survey c s) g 0 ≡ byte (cone c s g) + 2 * byte (in_front c s g) + 4 * byte (interest c s g)
+  pub bytes : (g : ℕ) → g < c.gates → get_or (survey c s) g 0 ≡ byte (cone c s g) + 2 * byte (in_front c s g) + 4 * byte (interesting c s g)
   pub listed : Lists (Front c s) (front c s)
   pub size_of_front : Size (Front c s) (front_size c s)
-  pub size_of_interest : Size (Interesting c s) (interest_size c s)
+  pub size_of_interest : Size (InterestSet c s) (interest_size c s)
+  pub no_interest : (interest_size c s ≡ 0) ↔ NoFront c s
 
 abbrev pub SurveyIs001 : Type 0
 SurveyIs001 = (c : Circuit) → WellFormed c → (s : List ℕ) → SurveyOf001 c s

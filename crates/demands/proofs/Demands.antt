@@ -19,7 +19,8 @@ use Rattle.circuit.specs.Circuit.{WellFormed}
 use Rattle.circuit.specs.Evaluate.{Satisfying, differ}
 use Rattle.circuit.specs.Survey.{survey}
 use Rattle.circuit.specs.Run.{RunResult, run, answer, EndingValues, told}
-use Rattle.circuit.specs.Promise.{NoFront, StuckAt, config, RunPromised, FinishingTape}
+use Rattle.circuit.specs.Source001.{NoFront}
+use Rattle.circuit.specs.Promise.{StuckAt, config, RunPromised, FinishingTape}
 use Rattle.circuit.proofs.Values.{bit_same}
 use Rattle.circuit.proofs.Evaluate.{row_is, row_first, evaluate_again}
 use Rattle.circuit.proofs.Survey.{differ_is}

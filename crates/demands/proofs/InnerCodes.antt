@@ -1,7 +1,7 @@
 -- Request F-1, on bytes. Assumes nothing.
 use Prim.Native.Nat.{ℕ, ◌≤◌}
 use mathlib.Core.Path.{◌≡◌, sym, ap, ◌∙◌}
-use mathlib.Core.Bool.{true, false}
+use mathlib.Core.Bool.{false}
 use mathlib.Core.Logic.{inl, inr}
 use mathlib.Core.List.{List, ◌++◌}
 use native.Mathlib.Omega.{arith}
@@ -11,7 +11,7 @@ use borrow.Author.Tests.{eqb-true}
 use Rattle.folds.proofs.Tests.{which}
 use Rattle.circuit.specs.Circuit.{coded}
 use Rattle.circuit.specs.Evaluate.{KeepsCodes}
-use Rattle.circuit.specs.Promise.{NoCodedChild, NeverStuck, run_of_all, AsBefore}
+use Rattle.circuit.specs.Promise.{NoCodedChild, NeverStuck, AsBefore}
 use Rattle.circuit.proofs.Turns.{options_left_are}
 use Rattle.circuit.proofs.Source001.{down_options_are, down_options_in_order}
 use Rattle.circuit.proofs.Moves.{greedy_options_are}
@@ -27,12 +27,12 @@ use Rattle.state.proofs.Meaning.{evaluate_number, mark_does, mark_number}
 use Rattle.survey.specs.Survey.{StartNumber}
 use Rattle.survey.proofs.Meaning.{survey_number}
 use Rattle.tape.specs.Tape.{entry_at, entries}
-use Rattle.search.specs.Move.{move_effect}
 use Rattle.search.specs.Run.{run_tests, run_answer, run_ended, run_by, run_effect}
 use Rattle.text.specs.Text.{in_decimal, read_decimal}
 use Rattle.line.specs.Line.{map_part, configuration_part, tape_part, input_test, lent, refused_line, run_line, line_of}
 use Rattle.line.proofs.Lines.{line_refused, line_runs}
-use Rattle.demands.specs.InnerCodes.{NeverStuckOn, SatisfiedNeverStuck, CodedFree, moved_of_all, UnchangedWhereFree, Without8, InnerCodes}
+use Rattle.demands.specs.Before.{moved_of_all, ran_of_all, MoveIsAs, RunIsAs}
+use Rattle.demands.specs.InnerCodes.{NeverStuckOn, SatisfiedNeverStuck, CodedFree, UnchangedWhereFree, Without8, InnerCodes}
 use Rattle.demands.proofs.Moves.{none as move-none, movable, written as move-written, move_does, move_number}
 use Rattle.demands.proofs.Runs.{none as run_none, written as run-written, runnable, run_number}
 use Rattle.demands.proofs.Demands.{run_does, demand3}
@@ -78,14 +78,13 @@ module _ (m : List ℕ) (v : verdict m ≡ 0) (f : CodedFree m) where
   circuits : (s : List ℕ) → KeepsCodes (circuit m) s → AsBefore (circuit m) s
   circuits = unchanged (circuit m) (well_formed m (facts m v)) (no_coded_child m (facts m v) f)
 
-  moves_before : (s entry work : List ℕ) → (move_effect m s entry work).accepted ≡ true → move_effect m s entry work ≡ moved_of_all m s entry work
+  moves_before : (s entry work : List ℕ) → MoveIsAs moved_of_all m s entry work
   moves_before s entry work e =
       let n = move-none m s entry work e in
       let a = movable m s entry work n in
       move-written m s entry work n ∙ rw ((circuits s a.start.keeps).entries a.some_front (entry_at entry 0))
 
-  runs_before : (s tape work ans : List ℕ) → (run_effect m s tape work ans).accepted ≡ true
-      → run_effect m s tape work ans ≡ run_ended (circuit m) (run_of_all (circuit m) s (entries tape)) work ans
+  runs_before : (s tape work ans : List ℕ) → RunIsAs ran_of_all m s tape work ans
   runs_before s tape work ans e =
       let n = run_none m s tape work ans e in
       let a = runnable m s tape work ans n in

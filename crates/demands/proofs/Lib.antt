@@ -9,3 +9,4 @@ pub mod Demand1
 pub mod InnerCodes
 pub mod Table
 pub mod Voters
+pub mod Weights

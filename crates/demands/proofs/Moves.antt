@@ -13,7 +13,7 @@ use Rattle.folds.proofs.Loops.{all_at, all_of}
 use Rattle.circuit.specs.Tools.{is_empty, over}
 use Rattle.circuit.specs.Survey.{front, survey}
 use Rattle.circuit.specs.Run.{move}
-use Rattle.circuit.specs.Promise.{NoFront}
+use Rattle.circuit.specs.Source001.{NoFront}
 use Rattle.circuit.proofs.Survey.{survey_is}
 use Rattle.circuit.proofs.Moves.{no_front, some_front, entry_does}
 use Rattle.map.specs.Map.{gate_count, circuit}

@@ -123,7 +123,8 @@ SameForAllMemories =
 -- reports as moves and flips the count of entries done and the sum of values they turned, and ends Found exactly when its front becomes empty within the
 -- tape; the state it then gives obeys every gate and shows every code."
 --     maps, notions    the circuit of an accepted map is well formed, so what `Demand2OnCircuits` says holds of it
---     survey-.., ..    which calls are accepted, and what these do
+--     survey_accepts, ..    which calls are accepted, and what these do. F-5: "Of demand 2's two differences, the one on NOT gates is now in the mark alone.": in `surveys` the bytes go by all interesting gates,
+--                      and the size of the interest set by 001's own set
 --     memories         whatever bytes work and answer memory hold
 pub record Demand2 : Type 1 where
   pub maps : AcceptedMaps

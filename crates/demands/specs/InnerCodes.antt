@@ -1,19 +1,16 @@
 -- Request F-1 of document 02, 'Codes on inner signals', on bytes: about the definitions that the calls' contracts cite. Assumes nothing.
-use Rattle.std.specs.Prelude.{ℕ, ◌≤◌, ◌<◌, ◌≡◌, true, false, List, length}
-use Rattle.circuit.specs.Tools.{over}
+use Rattle.std.specs.Prelude.{ℕ, ◌≤◌, ◌<◌, ◌≡◌, true, false, List}
 use Rattle.circuit.specs.Evaluate.{KeepsCodes}
-use Rattle.circuit.specs.Survey.{survey}
-use Rattle.circuit.specs.Run.{drawn, turn}
 use Rattle.circuit.specs.Source001.{DownOptionsAre001, DownOptionsInOrder}
-use Rattle.circuit.specs.Promise.{GreedyOptionsAre, OptionsLeftAre, entry_of_all, run_of_all, AsBefore}
+use Rattle.circuit.specs.Promise.{GreedyOptionsAre, OptionsLeftAre, AsBefore}
 use Rattle.map.specs.Map.{gate_count, code_count, fan_in, child_at, code_gate, circuit}
 use Rattle.map.specs.Check.{verdict, CheckAccepts, check_effect}
 use Rattle.state.specs.State.{Satisfies, evaluate_effect, mark_effect}
 use Rattle.survey.specs.Survey.{survey_effect}
-use Rattle.tape.specs.Tape.{entry_at, entries}
-use Rattle.search.specs.Move.{MoveEffect, move_effect, MoveDoes}
-use Rattle.search.specs.Run.{run_ended, run_effect}
+use Rattle.search.specs.Move.{move_effect, MoveDoes}
+use Rattle.search.specs.Run.{run_effect}
 use Rattle.line.specs.Line.{refused_line, line_of, LinesAre}
+use Rattle.demands.specs.Before.{moved_of_all, ran_of_all, MoveIsAs, RunIsAs}
 use Rattle.demands.specs.Demands.{RunDoes, Demand3}
 
 -- "Stuck must never occur on a map ..": no run on it, whatever start, tape and memories, ends so, and no move, whatever start and entry, which would then turn nothing.
@@ -29,26 +26,12 @@ SatisfiedNeverStuck = (m a : List ℕ) → Satisfies m a → NeverStuckOn m
 abbrev pub CodedFree : List ℕ → Type 0
 CodedFree m = (g j r : ℕ) → g < gate_count m → j < fan_in m g → r < code_count m → ¬ (child_at m g j ≡ code_gate m r)
 
--- what Move does on such a map if all options count
-abbrev pub moved_of_all : List ℕ → List ℕ → List ℕ → List ℕ → MoveEffect
-moved_of_all m s entry work =
-    let o = entry_of_all (circuit m) s (entry_at entry 0) in
-    record {
-      accepted = true;
-      number = 0;
-      gate = drawn (circuit m) s (entry_at entry 0).draw;
-      turned = length o;
-      configuration = turn o s;
-      work = over (survey (circuit m) (turn o s)) work;
-    }
-
--- On those maps nothing changed: all options are left, accepted moves and runs are those in which all options count, and nothing is ever stuck. (Of the other calls only test 8 went, the
+-- On those maps F-1 changed nothing: all options are left, accepted moves and runs are those in which all options count, and nothing is ever stuck. (Of the other calls only test 8 went, the
 -- last of the map's, which these maps passed.)
 pub record UnchangedOn (m : List ℕ) : Type 0 where
   pub circuits : (s : List ℕ) → KeepsCodes (circuit m) s → AsBefore (circuit m) s
-  pub moves : (s entry work : List ℕ) → (move_effect m s entry work).accepted ≡ true → move_effect m s entry work ≡ moved_of_all m s entry work
-  pub runs : (s tape work ans : List ℕ) → (run_effect m s tape work ans).accepted ≡ true
-      → run_effect m s tape work ans ≡ run_ended (circuit m) (run_of_all (circuit m) s (entries tape)) work ans
+  pub moves : (s entry work : List ℕ) → MoveIsAs moved_of_all m s entry work
+  pub runs : (s tape work ans : List ℕ) → RunIsAs ran_of_all m s tape work ans
   pub never_stuck : NeverStuckOn m
 
 abbrev pub UnchangedWhereFree : Type 0

@@ -1,4 +1,6 @@
+pub mod Before
 pub mod Demands
 pub mod InnerCodes
 pub mod Table
 pub mod Voters
+pub mod Weights

@@ -1,4 +1,4 @@
--- Document 01's examples P1 to P12 as one table, on bytes, about the definitions that the contracts cite. antt computes them. Assumes nothing.
+-- Document 01's examples P1 to P12 as one table, and F-5's example beside them, on bytes, about the definitions that the contracts cite. antt computes them. Assumes nothing.
 use Rattle.std.specs.Prelude.{ℕ, ◌≡◌, true, false, List, [], ◌∷◌, ◌++◌, map, length, take}
 use Rattle.circuit.specs.declared.Ending.{Ending}
 use Rattle.circuit.specs.declared.Ending.TheVariants.{Found, Spent}
@@ -6,9 +6,9 @@ use Rattle.circuit.specs.Tools.{up_to}
 use Rattle.circuit.specs.Circuit.{Circuit}
 use Rattle.circuit.specs.Evaluate.{row_of}
 use Rattle.circuit.specs.Survey.{interest_size}
-use Rattle.circuit.specs.Run.{turn}
-use Rattle.circuit.specs.Promise.{config}
-use Rattle.circuit.specs.Bench.{adder, A, B, C, circuit_p9, circuit_p10, circuit_p11}
+use Rattle.circuit.specs.Run.{options_left, turn}
+use Rattle.circuit.specs.Promise.{config, size_with_nots}
+use Rattle.circuit.specs.Bench.{adder, A, B, C, D, circuit_p9, circuit_p10, circuit_p11, circuit_f5}
 use Rattle.map.specs.Map.{circuit}
 use Rattle.state.specs.State.{mark_effect}
 use Rattle.survey.specs.Survey.{SurveyEffect, survey_effect}
@@ -17,6 +17,7 @@ use Rattle.tape.specs.Tape.{entries}
 use Rattle.search.specs.Run.{RunEffect, run_answer, run_effect}
 use Rattle.line.specs.Text.{found_word, spent_word}
 use Rattle.line.specs.Line.{input_of, line_of}
+use Rattle.demands.specs.Before.{moved_with_nots, ran_with_nots}
 
 -- ---- the maps
 
@@ -52,6 +53,14 @@ map_p11 =
     four 0 0 0 0 (four 2 0 1 0 (3 ∷ 0 ∷ (
     four 4 0 1 0 [])))))))))))
 
+-- F-5's map: 0, 1, 2 inputs; 3 AND(0,1); 4 NOT(2); 5 NOT(4); 6 NOT(5); 7 OR(3,6); code 7 = 1
+unfoldable pub map_f5 : List ℕ
+map_f5 =
+    four 12 0 8 0 (four 44 0 7 0 (four 58 0 1 0 (
+    four 0 0 0 0 (four 0 0 0 0 (four 0 0 0 0 (four 2 2 0 0 (four 1 1 2 0 (four 1 1 3 0 (four 1 1 4 0 (four 3 2 5 0 (
+    four 0 0 1 0 (four 2 0 4 0 (four 5 0 3 0 (6 ∷ 0 ∷ (
+    four 7 0 1 0 [])))))))))))))))
+
 -- two circuits of n gates that are the same, gate by gate
 pub record SameCircuit (n : ℕ) (c d : Circuit) : Type 0 where
   pub gates : c.gates ≡ d.gates
@@ -71,7 +80,7 @@ down i = four 0 0 1 i []
 abbrev pub up : ℕ → List ℕ
 up i = four 0 0 2 i []
 
--- work and answer memory for the adder map, for three gates and for five, all 170
+-- work and answer memory for the adder map and F-5's, for three gates and for five, all 170
 abbrev pub memory8 : List ℕ
 memory8 = four 170 170 170 170 (four 170 170 170 170 [])
 
@@ -155,3 +164,21 @@ pub record P1ToP12 : Type 0 where
   pub p11_row : row_after map_p11 (run_effect map_p11 (0 ∷ four 0 1 1 1 []) (up 0 ++ down 0) memory5 memory5) ≡ 0 ∷ 1 ∷ []
   -- "P12 Mark of A: no."
   pub P12 : mark_effect adder_bytes A ≡ record { accepted = true; number = 0; yes = false }
+
+-- F-5: "add one example where the greedy option changes": from D = 0 0 1 0 0 1 0 1 an entry draws gate 7, whose options turn gate 3 and gate 6. Turned, gate 3 is an
+-- unjustified AND over two inputs, and gate 6 an unjustified NOT over two more and an input.
+pub record ExampleF5 : Type 0 where
+  pub map_is : SameCircuit 8 (circuit map_f5) circuit_f5
+  pub d_is : D ≡ four 0 0 1 0 (four 0 1 0 1 [])
+  pub options : options_left (circuit map_f5) D 7 ≡ (3 ∷ []) ∷ (6 ∷ []) ∷ []
+  -- the sizes compared are 3 and 1, and without F-5 3 and 4
+  pub sizes : (interest_size (circuit map_f5) (turn (3 ∷ []) D) ≡ 3) × (interest_size (circuit map_f5) (turn (6 ∷ []) D) ≡ 1)
+  pub sizes_before : (size_with_nots (circuit map_f5) (turn (3 ∷ []) D) ≡ 3) × (size_with_nots (circuit map_f5) (turn (6 ∷ []) D) ≡ 4)
+  -- so gate 6 turns, and without F-5 gate 3
+  pub moved : move_effect map_f5 D (greedy 0) memory8 ≡ move_gave 7 1 (four 0 0 1 0 (four 0 1 1 1 [])) (four 0 0 4 0 (four 4 4 7 1 []))
+  pub moved_before : moved_with_nots map_f5 D (greedy 0) memory8 ≡ move_gave 7 1 (four 0 0 1 1 (four 0 1 0 1 [])) (four 4 4 0 7 (four 0 0 0 1 []))
+  pub ran : run_effect map_f5 D (greedy 0) memory8 memory8 ≡ run_gave (Spent 1) 1 1 (four 0 0 1 0 (four 0 1 1 1 [])) (four 0 0 4 0 (four 4 4 7 1 [])) memory8
+  pub ran_before : ran_with_nots map_f5 D (greedy 0) memory8 memory8 ≡ run_gave (Spent 1) 1 1 (four 0 0 1 1 (four 0 1 0 1 [])) (four 4 4 0 7 (four 0 0 0 1 [])) memory8
+  -- Survey of both: gate 6 alone in the front, with three NOT gates that have the mark 4, and the size that of input 2; and gate 3 alone
+  pub surveyed : survey_effect map_f5 (four 0 0 1 0 (four 0 1 1 1 [])) memory8 ≡ survey_gave 1 1 (four 0 0 4 0 (four 4 4 7 1 []))
+  pub surveyed_before : survey_effect map_f5 (four 0 0 1 1 (four 0 1 0 1 [])) memory8 ≡ survey_gave 1 3 (four 4 4 0 7 (four 0 0 0 1 []))

@@ -1,4 +1,4 @@
--- Request F-3 of document 02, 'Two-out-of-three voters', on bytes: about the definitions that the calls' contracts cite. Nothing goes by this file: elsewhere a kind is told apart in circuit's
+-- Request F-3 of document 02, 'Two-out-of-three voters', on bytes: about the definitions that the calls' contracts cite. Nothing goes by this file: elsewhere voters are told apart in circuit's
 -- Gate alone. Assumes nothing.
 use Rattle.std.specs.Prelude.{ℕ, ◌<◌, ◌≡◌, ◌↔◌, true, false, List, [], ◌∷◌}
 use mathlib.Core.List.{Memᴰ as In}

@@ -2,7 +2,7 @@
 #![tactic(auto)]
 
 ghost use Rattle.std.specs.Prelude.{◌≡◌, ◌≤◌};
-ghost use Rattle.circuit.specs.Gate.{kind_of, fan_in_fits};
+ghost use Rattle.circuit.specs.Gate.{kind_of, fan_in_fits, carries_weight};
 ghost use Rattle.kinds.specs.Kinds.{kind_fits, only_fan_in, needed, GivesBy, all_relevant, option_count, in_pair, option_turns};
 
 use circuit::Kind;
@@ -81,6 +81,13 @@ pub fn all_relevant(kind: Kind) -> bool
     ensures { result ≡ all_relevant kind }
 {
     matches!(kind, Kind::Not | Kind::Xor)
+}
+
+// Does a gate of this kind count in the size of an interest set? (F-5)
+pub fn carries_weight(kind: Kind) -> bool
+    ensures { result ≡ carries_weight kind }
+{
+    !matches!(kind, Kind::Not)
 }
 
 // How many options a gate of this kind with value v and `fan` children has.

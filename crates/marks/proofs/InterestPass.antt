@@ -1,24 +1,23 @@
 -- The pass for the interest set: the marks at each gate, from the last down to gate 0. Assumes nothing.
 use Prim.Native.Nat.{ℕ, zero, suc, ◌+◌, ◌-◌, ◌*◌, ◌<◌, ◌≤◌}
-use mathlib.Core.Path.{◌≡◌, refl, ◌∙◌}
+use mathlib.Core.Path.{◌≡◌, refl, sym, ◌∙◌}
 use mathlib.Core.Logic.{inl, inr}
-use mathlib.Core.Bool.{Bool, true, false, not, cond, false≢true}
-use mathlib.Core.List.{List, [], ◌∷◌, map}
+use mathlib.Core.Bool.{Bool, true, false, not, false≢true}
+use mathlib.Core.List.{List}
 use native.Mathlib.Omega.{arith}
-use lib.ListN.{length, get_or, set}
+use lib.ListN.{get_or, set}
 use lib.Dec.{leb, ltb}
 use borrow.Author.Tests.{le-ltb}
 use Rattle.folds.specs.Folds.{◌and◌}
-use Rattle.folds.proofs.Tests.{which}
-use Rattle.std.specs.Prelude.{count_by}
-use Rattle.std.proofs.lemmas.List.Sums.{sum_by-cons}
-use Rattle.circuit.specs.Tools.{byte, up_to, select}
+use Rattle.folds.proofs.Tests.{which, and_past, and_first_false}
+use Rattle.circuit.specs.Tools.{byte}
+use Rattle.circuit.specs.Gate.{carries_weight}
 use Rattle.circuit.specs.Circuit.{Circuit, WellFormed}
-use Rattle.circuit.specs.Survey.{cone, in_front, interest, survey, interest_size}
+use Rattle.circuit.specs.Survey.{cone, in_front, interesting, survey, interest_set, interest_size}
 use Rattle.circuit.proofs.Spread.{spread_start}
 use Rattle.circuit.proofs.Cone.{front_cone}
-use Rattle.marks.specs.Marks.{cone_marks, paint, mark_below, mark_itself, interest_turn, interest_count}
-use Rattle.marks.proofs.Tables.{same_tables}
+use Rattle.marks.specs.Marks.{cone_marks, paint, mark_below, mark_itself, interest_turn, weight_at, InterestTurned, SurveyMarks}
+use Rattle.marks.proofs.Tables.{same_tables, count_from, count_none, count_more, count_all}
 use Rattle.marks.proofs.Pass.{From, begins, ends, mark_is, passes, turns}
 
 -- ---- a mark, by what it says: in the cone, in the front, interesting
@@ -76,17 +75,6 @@ early_none : (k f : Bool) → mark k f false ≡ early k f false
 unfolding ◌and◌
 early_none k f = refl
 
--- the 4 tells
-mark_high : (k f t : Bool) → (f ≡ true → k ≡ true) → leb 4 (mark k f t) ≡ t
-mark_high false true true h = no_mark h
-mark_high false true false h = no_mark h
-mark_high true true true h = refl
-mark_high true true false h = refl
-mark_high true false true h = refl
-mark_high true false false h = refl
-mark_high false false true h = refl
-mark_high false false false h = refl
-
 below_twice : (b : ℕ) → mark_below (mark_below b) ≡ mark_below b
 unfolding mark_below
 below_twice b = elim (which (ltb b 2)) [
@@ -98,73 +86,82 @@ below_twice b = elim (which (ltb b 2)) [
 
 module _ (c : Circuit) (s : List ℕ) where
   abbrev late_mark : ℕ → ℕ
-  late_mark x = mark (cone c s x) (in_front c s x) (interest c s x)
+  late_mark x = mark (cone c s x) (in_front c s x) (interesting c s x)
 
   abbrev early_mark : ℕ → Bool → ℕ
   early_mark x t = early (cone c s x) (in_front c s x) t
 
-  abbrev pub InterestFrom : ℕ → List ℕ → Type 0
+  abbrev InterestFrom : ℕ → List ℕ → Type 0
   InterestFrom = From c.gates c.kids (in_front c s) late_mark early_mark
 
-  pub interest_begins : (w : List ℕ) → w ≡ cone_marks c s → InterestFrom c.gates w
-  unfolding cone_marks
-  interest_begins w e = begins _ _ _ _ _ w (e ∙ same_tables _ _ c.gates (λ x l. early_start (cone c s x) (in_front c s x)))
-
-  pub interest_ends : (w : List ℕ) → InterestFrom 0 w → w ≡ survey c s
-  unfolding survey
-  interest_ends w k = ends _ _ _ _ _ w k
-
-  front_interest : (g : ℕ) → in_front c s g ≡ true → interest c s g ≡ true
-  unfolding interest
+  front_interest : (g : ℕ) → in_front c s g ≡ true → interesting c s g ≡ true
+  unfolding interesting
   front_interest g e = spread_start c.kids c.gates (in_front c s) g e
 
   module _ (ok : WellFormed c) (g : ℕ) (h : g < c.gates) (w : List ℕ) (k : InterestFrom (suc g) w) where
-    marked : get_or w g 0 ≡ early_mark g (interest c s g)
-    unfolding interest
+    marked : get_or w g 0 ≡ early_mark g (interesting c s g)
+    unfolding interesting
     marked = mark_is c.gates c.kids (in_front c s) late_mark early_mark ok.below g h w k
 
-    high : leb 2 (get_or w g 0) ≡ interest c s g
-    high = rw marked (early_high (cone c s g) (in_front c s g) (interest c s g) (front_cone c s g) (front_interest g))
+    high : leb 2 (get_or w g 0) ≡ interesting c s g
+    high = rw marked (early_high (cone c s g) (in_front c s g) (interesting c s g) (front_cone c s g) (front_interest g))
 
-    turned : interest c s g ≡ true → InterestFrom g (paint mark_below (c.kids g) (set w g (late_mark g)))
-    unfolding interest
+    turned : interesting c s g ≡ true → InterestFrom g (paint mark_below (c.kids g) (set w g (late_mark g)))
+    unfolding interesting
     turned q = turns c.gates c.kids (in_front c s) late_mark early_mark ok.below g h w k mark_below below_twice
         (λ x b. early_below (cone c s x) (in_front c s x) b (front_cone c s x)) q
 
-    late_in : interest c s g ≡ true → mark_itself (get_or w g 0) ≡ late_mark g
+    late_in : interesting c s g ≡ true → mark_itself (get_or w g 0) ≡ late_mark g
     late_in q = rw (marked, q) (early_itself (cone c s g) (in_front c s g) (front_cone c s g))
 
-    turn_in : interest c s g ≡ true → InterestFrom g (paint mark_below (c.kids g) (set w g (mark_itself (get_or w g 0))))
+    turn_in : interesting c s g ≡ true → InterestFrom g (paint mark_below (c.kids g) (set w g (mark_itself (get_or w g 0))))
     turn_in q = rw (late_in q) (turned q)
 
-    turn_out : interest c s g ≡ false → InterestFrom g w
-    unfolding interest
+    turn_out : interesting c s g ≡ false → InterestFrom g w
+    unfolding interesting
     turn_out q = passes c.gates c.kids (in_front c s) late_mark early_mark ok.below g h w k q
         (rw q (early_none (cone c s g) (in_front c s g)))
 
     interest_turn_lem : InterestFrom g (interest_turn c g w)
     unfolding interest_turn
-    interest_turn_lem = rw high (elim (which (interest c s g)) [
+    interest_turn_lem = rw high (elim (which (interesting c s g)) [
       | inl q ↦ rw q (turn_in q)
       | inr q ↦ rw q (turn_out q)
     ])
 
-  -- the turn of a loop that counts down from n
-  pub interest_step : WellFormed c → (n : ℕ) → 0 < n → n ≤ c.gates → (w : List ℕ) → InterestFrom n w → InterestFrom (n - 1) (interest_turn c (n - 1) w)
-  interest_step ok zero z l w k = absurd (omega arith)
-  interest_step ok (suc g) z l w k = let e : suc g - 1 ≡ g = omega arith in rw e (interest_turn_lem ok g (omega arith) w k)
+    -- what the turn counts
+    weight_at_lem : weight_at c g w ≡ byte (interest_set c s g)
+    unfolding weight_at interest_set
+    weight_at_lem = rw high (elim (which (interesting c s g)) [
+      | inl q ↦ rw (q, and_past true (carries_weight (c.kind g)) refl)
+      | inr q ↦ rw (q, and_first_false false (carries_weight (c.kind g)) refl)
+    ])
 
-  -- ---- the size
+-- ---- the loop: the gates from g on have had their turn
 
-  -- the marks that say so, counted along the gates
-  counted : (xs : List ℕ) → count_by (λ b. leb 4 b) (map late_mark xs) ≡ length (select (interest c s) xs)
-  counted [] = refl
-  counted (x ∷ xs) = sum_by-cons (λ b. cond (leb 4 b) 1 0) (late_mark x) (map late_mark xs)
-      ∙ rw (counted xs, mark_high (cone c s x) (in_front c s x) (interest c s x) (front_cone c s x)) (elim (which (interest c s x)) [
-        | inl q ↦ rw q (omega arith)
-        | inr q ↦ rw q (omega arith)
-      ])
+pub record InterestSoFar (c : Circuit) (s : List ℕ) (g : ℕ) (marks : List ℕ) (size : ℕ) : Type 0 where
+  pub from : InterestFrom c s g marks
+  pub counted : size ≡ count_from (interest_set c s) c.gates g
 
-  pub interest_count_lem : (w : List ℕ) → w ≡ survey c s → interest_count w ≡ interest_size c s
-  unfolding interest_size survey
-  interest_count_lem w e = rw e (counted (up_to c.gates))
+module _ (c : Circuit) (s : List ℕ) where
+  pub interest_begins : (w : List ℕ) → w ≡ cone_marks c s → InterestSoFar c s c.gates w 0
+  unfolding cone_marks
+  interest_begins w e = record {
+    from = begins _ _ _ _ _ w (e ∙ same_tables _ _ c.gates (λ x l. early_start (cone c s x) (in_front c s x)));
+    counted = sym (count_none (interest_set c s) c.gates);
+  }
+
+  pub interest_step : WellFormed c → (n : ℕ) → 0 < n → n ≤ c.gates → (w v : List ℕ) (size r : ℕ) → InterestSoFar c s n w size → InterestTurned c (n - 1) w v r
+      → InterestSoFar c s (n - 1) v (size + r)
+  interest_step ok zero z l w v size r k t = absurd (omega arith)
+  interest_step ok (suc g) z l w v size r k t =
+      let e : suc g - 1 ≡ g = omega arith in
+      let h : g < c.gates = omega arith in
+      rw e (record {
+        from = rw (rw e at t.marks) (interest_turn_lem c s ok g h w k.from);
+        counted = rw (k.counted, rw e at t.weight, weight_at_lem c s ok g h w k.from) (sym (count_more (interest_set c s) c.gates g h));
+      })
+
+  pub interest_ends : (w : List ℕ) (size : ℕ) → InterestSoFar c s 0 w size → SurveyMarks c s w size
+  unfolding survey interest_size
+  interest_ends w size k = record { are = ends _ _ _ _ _ w k.from; interest_is = k.counted ∙ count_all (interest_set c s) c.gates }

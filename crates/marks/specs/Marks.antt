@@ -1,8 +1,9 @@
 -- For inner functions: the marks of a survey, a byte per gate, while they are made. Assumes nothing.
-use Rattle.std.specs.Prelude.{ℕ, ◌+◌, ◌*◌, ◌≤◌, ◌≡◌, cond, not, List, [], ◌∷◌, map, count_by, get_or, set, eqb, leb, ltb}
+use Rattle.std.specs.Prelude.{ℕ, ◌+◌, ◌*◌, ◌≤◌, ◌≡◌, cond, not, List, [], ◌∷◌, map, get_or, set, eqb, leb, ltb}
 use Rattle.circuit.specs.Tools.{byte, up_to}
+use Rattle.circuit.specs.Gate.{carries_weight}
 use Rattle.circuit.specs.Circuit.{Circuit, justified}
-use Rattle.circuit.specs.Survey.{reasons, cone, in_front, survey, front_size}
+use Rattle.circuit.specs.Survey.{reasons, cone, in_front, survey, front_size, interest_size}
 
 -- Cone and front alone: 1 if in the cone, plus 2 if in the front. So a byte is 0, 1 or 3.
 unfoldable pub cone_marks : Circuit → List ℕ → List ℕ
@@ -51,14 +52,24 @@ mark_itself b = cond (eqb b 3) 7 b
 unfoldable pub interest_turn : Circuit → ℕ → List ℕ → List ℕ
 interest_turn c g w = cond (leb 2 (get_or w g 0)) (paint mark_below (c.kids g) (set w g (mark_itself (get_or w g 0)))) w
 
+-- 1 if gate g is interesting and carries weight, else 0
+unfoldable pub weight_at : Circuit → ℕ → List ℕ → ℕ
+weight_at c g w = cond (leb 2 (get_or w g 0)) (byte (carries_weight (c.kind g))) 0
+
+-- what gate g's turn leaves and counts
+pub record InterestTurned (c : Circuit) (g : ℕ) (before after : List ℕ) (counted : ℕ) : Type 0 where
+  pub marks : after ≡ interest_turn c g before
+  pub weight : counted ≡ weight_at c g before
+
 -- marks that are the cone and the front of some configuration
 abbrev pub ConeMarked : Circuit → List ℕ → Type 0
 ConeMarked c w = (s : List ℕ) × (w ≡ cone_marks c s)
 
--- and that have become the survey of that configuration
-abbrev pub Completed : Circuit → List ℕ → List ℕ → Type 0
-Completed c before after = (s : List ℕ) → before ≡ cone_marks c s → after ≡ survey c s
+-- marks that are the survey of s, beside the interest set's size
+pub record SurveyMarks (c : Circuit) (s marks : List ℕ) (interest : ℕ) : Type 0 where
+  pub are : marks ≡ survey c s
+  pub interest_is : interest ≡ interest_size c s
 
--- how many marks say that their gate is interesting
-abbrev pub interest_count : List ℕ → ℕ
-interest_count w = count_by (λ b. leb 4 b) w
+-- what marks of cone and front become: the survey of the configuration whose cone and front they are, beside the interest set's size
+abbrev pub Completed : Circuit → List ℕ → List ℕ → ℕ → Type 0
+Completed c before after interest = (s : List ℕ) → before ≡ cone_marks c s → SurveyMarks c s after interest

@@ -1,7 +1,8 @@
-// The interest set over the marks of cone and front, by one pass from the last gate to gate 0.
+// The interest set over the marks of cone and front, by one pass from the last gate to gate 0, which counts its size too.
 ghost use Rattle.std.specs.Prelude.{◌≡◌, ◌<◌, ◌≤◌, length, leb};
-ghost use Rattle.map.specs.Map.{most_gates, kids_of, circuit};
-ghost use Rattle.marks.specs.Marks.{paint, mark_below, mark_itself, interest_turn, ConeMarked, Completed, interest_count};
+ghost use Rattle.circuit.specs.Tools.{byte};
+ghost use Rattle.map.specs.Map.{kids_of, circuit};
+ghost use Rattle.marks.specs.Marks.{paint, mark_below, mark_itself, InterestTurned, ConeMarked, Completed};
 
 use map::Map;
 
@@ -41,33 +42,31 @@ fn mark_children(map: Map, g: usize, marks: &mut [u8])
     }
 }
 
-// Gate g's turn: where it is in the front or marked as interesting, so are its children.
-#[tactic(auto, unfolding(crate::specs::Marks::interest_turn))]
-fn mark_gate(map: Map, g: usize, marks: &mut [u8])
+// Gate g's turn: where it is in the front or marked as interesting, so are its children. Does it count in the size of the interest set? (F-5: a NOT gate doesn't.)
+#[tactic(auto, unfolding(crate::specs::Marks::interest_turn, crate::specs::Marks::weight_at))]
+fn mark_gate(map: Map, g: usize, marks: &mut [u8]) -> bool
     requires { (g < map.gates) × (map.gates ≤ length marks.old) }
-    ensures { marks.new ≡ interest_turn (circuit map.entry.bytes.now) g marks.old }
+    ensures { InterestTurned (circuit map.entry.bytes.now) g marks.old marks.new (byte result) }
 {
-    if interesting(marks[g]) {
-        marks[g] = mark_itself(marks[g]);
-        mark_children(map, g, marks);
+    if !interesting(marks[g]) {
+        return false;
     }
+    marks[g] = mark_itself(marks[g]);
+    mark_children(map, g, marks);
+    kinds::carries_weight(map.kind(g))
 }
 
-// Marks that are the cone and the front of a configuration become its survey.
-pub fn mark(map: Map, marks: &mut [u8])
+// Marks that are the cone and the front of a configuration become its survey. Returns the size of the interest set.
+pub fn mark(map: Map, marks: &mut [u8]) -> u16
     requires room { map.gates ≡ length marks.old }
     requires cone_marked { ConeMarked (circuit map.bytes.now) marks.old }
-    ensures { Completed (circuit map.entry.bytes.now) marks.old marks.new }
+    ensures { Completed (circuit map.entry.bytes.now) marks.old marks.new result }
 {
+    let mut size = 0;
     for g in (0..map.gates).rev() {
-        mark_gate(map, g, marks);
+        if mark_gate(map, g, marks) {
+            size += 1;
+        }
     }
-}
-
-// The size of the interest set.
-pub fn size(marks: &[u8]) -> u16
-    requires { length marks.now ≤ most_gates }
-    ensures { result ≡ interest_count marks.now }
-{
-    marks.iter().map(|mark| u16::from(4 <= *mark)).sum()
+    size
 }

@@ -6,8 +6,8 @@ use Rattle.circuit.specs.Tools.{is_empty, over}
 use Rattle.circuit.specs.Survey.{front, survey}
 use Rattle.circuit.specs.Evaluate.{KeepsCodes, differ}
 use Rattle.circuit.specs.Run.{entry_turns, move}
-use Rattle.circuit.specs.Source001.{Front, TurnsExactly}
-use Rattle.circuit.specs.Promise.{NoFront, StuckAt, EntryDoes}
+use Rattle.circuit.specs.Source001.{NoFront, Front, TurnsExactly}
+use Rattle.circuit.specs.Promise.{StuckAt, EntryDoes}
 use Rattle.map.specs.Map.{gate_count, circuit}
 use Rattle.map.specs.Check.{first_failed, map_tests, Test, MapNumber}
 use Rattle.state.specs.State.{HasRoom}
@@ -67,7 +67,7 @@ move_effect m s entry work = move_by (first_failed (map_tests m ++ move_tests m 
 
 -- ---- what it means
 
--- Of an accepted call: what its one entry does is `EntryDoes`, document 01's move with the options of source document 001, those left by F-1; the record and the two
+-- Of an accepted call: what its one entry does is `EntryDoes`, document 01's move with the options of source document 001, those left by F-1 and compared by F-5; the record and the two
 -- memories say so. Where it is stuck, nothing is turned, and only there. (What `survey` says of a configuration is 001's: `SurveyIs001`.)
 pub record MoveMeans (m s entry work : List ℕ) (r : MoveEffect) : Type 0 where
   pub start : IsStart m s

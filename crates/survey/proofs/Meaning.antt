@@ -11,7 +11,7 @@ use borrow.Author.Tests.{eqb-true, eqb-false, eq-eqb, leb-true, le-leb}
 use Rattle.folds.proofs.Tests.{which}
 use Rattle.circuit.specs.Tools.{over}
 use Rattle.circuit.specs.Survey.{survey, front_size, interest_size}
-use Rattle.circuit.proofs.Survey.{survey_is}
+use Rattle.circuit.proofs.Survey.{none_sized, survey_is}
 use Rattle.map.specs.Map.{gate_count, circuit}
 use Rattle.map.specs.Check.{first_failed, map_tests}
 use Rattle.map.proofs.Laws.{past, no_test, none_failed, passed_before}
@@ -27,7 +27,7 @@ module _ (m s out : List ℕ) where
   abbrev number : ℕ
   number = first_failed (map_tests m ++ survey_tests m s out)
 
-  none : (survey_effect m s out).accepted ≡ true → number ≡ 0
+  pub none : (survey_effect m s out).accepted ≡ true → number ≡ 0
   unfolding survey_effect survey_by
   none e = elim (which (eqb number 0)) [
     | inl q ↦ eqb-true number 0 q
@@ -54,7 +54,7 @@ module _ (m s out : List ℕ) where
   unfolding survey_tests
   of_room k l = behind_start m s _ k ∙ past _ _ _ l ∙ no_test
 
-  written : number ≡ 0 → survey_effect m s out ≡ record { accepted = true; number = 0; front = front_size (circuit m) s; interest = interest_size (circuit m) s; out = over (survey (circuit m) s) out }
+  pub written : number ≡ 0 → survey_effect m s out ≡ record { accepted = true; number = 0; front = front_size (circuit m) s; interest = interest_size (circuit m) s; out = over (survey (circuit m) s) out }
   unfolding survey_effect survey_by
   written e = rw (eq-eqb number 0 e)
 
@@ -77,12 +77,16 @@ survey_does m s out e =
         is = get_or-append (survey (circuit m) s) _ 0 g (omega arith) ∙ f.bytes g h;
         cone_is = f.cone_is g h;
         front_is = f.front_is g h;
-        interest_is = f.interest_is g h;
+        interest_is = f.interesting_is g h;
       };
       surplus = over_rest (survey (circuit m) s) out (gate_count m) l;
       long = long;
       size_of_front = f.size_of_front;
       size_of_interest = f.size_of_interest;
+      no_interest = (
+        λ z. (none_sized _ _ f.size_of_front).1 (f.no_interest.0 z),
+        λ z. f.no_interest.1 ((none_sized _ _ f.size_of_front).0 z),
+      );
     })
 
 pub survey_accepts : SurveyAccepts

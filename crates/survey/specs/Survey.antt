@@ -7,7 +7,7 @@ use Rattle.circuit.specs.Tools.{byte, over}
 use Rattle.circuit.specs.Circuit.{on}
 use Rattle.circuit.specs.Evaluate.{shows_code, KeepsCodes}
 use Rattle.circuit.specs.Survey.{survey, front_size, interest_size}
-use Rattle.circuit.specs.Source001.{Cone, Front, Interesting, Size}
+use Rattle.circuit.specs.Source001.{Cone, Front, Interesting, InterestSet, Size}
 use Rattle.map.specs.Map.{gate_count, code_count, code_gate, code_value, circuit}
 use Rattle.map.specs.Check.{first_failed, map_tests, verdict, Test, MapNumber}
 use Rattle.state.specs.State.{configuration_tests, ConfigurationNumber, HasRoom}
@@ -70,7 +70,8 @@ pub record SurveyByte (b : ℕ) (InCone InFront IsInteresting : Type 0) : Type 0
   pub front_is : (front ≡ true) ↔ InFront
   pub interest_is : (interest ≡ true) ↔ IsInteresting
 
--- The bytes and sizes are those of 001's cone, front and interest set (with document 01's two differences); the surplus stands.
+-- The bytes and sizes are those of 001's cone, front and interest set (with document 01's two differences, of which by F-5 the one on NOT gates is "in the mark alone": the size of the interest set is that of 001's
+-- own, and 0 exactly where that of the front is); the surplus stands.
 pub record SurveyMeans (m s out : List ℕ) (r : SurveyEffect) : Type 0 where
   pub number : r.number ≡ 0
   pub start : IsStart m s
@@ -79,7 +80,8 @@ pub record SurveyMeans (m s out : List ℕ) (r : SurveyEffect) : Type 0 where
   pub surplus : drop (gate_count m) r.out ≡ drop (gate_count m) out
   pub long : length r.out ≡ length out
   pub size_of_front : Size (Front (circuit m) s) r.front
-  pub size_of_interest : Size (Interesting (circuit m) s) r.interest
+  pub size_of_interest : Size (InterestSet (circuit m) s) r.interest
+  pub no_interest : (r.interest ≡ 0) ↔ (r.front ≡ 0)
 
 abbrev pub SurveyDoes : Type 0
 SurveyDoes = (m s out : List ℕ) → (survey_effect m s out).accepted ≡ true → SurveyMeans m s out (survey_effect m s out)
