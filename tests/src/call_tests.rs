@@ -1,8 +1,10 @@
 //! What the documents say of single calls, and that the lists of cases are not bare.
 
+use crate::choices::{greedy_by, marks, shows_f5};
 use crate::engine::*;
 use crate::fixed::{adder, fixed};
 use crate::frame::*;
+use crate::maps::build;
 use crate::random::random;
 use std::collections::BTreeSet;
 
@@ -114,6 +116,30 @@ fn moves_of_p3_to_p7() {
         assert_eq!(configuration, after);
         assert_eq!(work[..8], bytes);
         assert_eq!(work[8], 170);
+    }
+}
+
+/// F-5: "one example where the greedy option changes." 0, 1, 2 inputs, 3 AND(0,1),
+/// 4 NOT(2), 5 NOT(4), 6 NOT(5), 7 OR(3,6), code 7 = 1. Turning gate 3 leaves three
+/// interesting gates, and turning gate 6 four, of which three are NOTs.
+#[test]
+fn not_gates_carry_no_weight() {
+    let input = (INPUT, vec![]);
+    let nots = [(NOT, vec![2]), (NOT, vec![4]), (NOT, vec![5])];
+    let gates = [&[input.clone(), input.clone(), input, (AND, vec![0, 1])][..], &nots, &[(OR, vec![3, 6])]].concat();
+    let map = build(&gates, &[(7, 1)]);
+    let (start, third, sixth) = ([0, 0, 1, 0, 0, 1, 0, 1], [0, 0, 1, 1, 0, 1, 0, 1], [0, 0, 1, 0, 0, 1, 1, 1]);
+    let mut bytes = [170; 8];
+    assert_eq!((survey(&map, &third, &mut bytes), marks(&map, &third)), (Ok((1, 3)), 3));
+    assert_eq!(bytes, [4, 4, 0, 7, 0, 0, 0, 1]);
+    assert_eq!((survey(&map, &sixth, &mut bytes), marks(&map, &sixth)), (Ok((1, 1)), 4));
+    assert_eq!(bytes, [0, 0, 4, 0, 4, 4, 7, 1]);
+    for option in 0..4 {
+        let (entry, mut configuration, mut work) = ([0, 0, GREEDY, option], start, [170; 8]);
+        assert_eq!(make_move(&map, &mut configuration, &entry, &mut work), Ok((7, 1)));
+        assert_eq!((configuration, work), (sixth, bytes));
+        assert_eq!(greedy_by(&map, &start, &entry, |way| marks(&map, way)), third);
+        assert!(shows_f5(&map, &start, &entry, &sixth) && !shows_f5(&map, &start, &entry, &third));
     }
 }
 
@@ -239,6 +265,8 @@ fn random_surveys_are_not_bare() {
     let lines: Vec<String> = surveys.iter().map(answer).collect();
     assert_eq!(numbers(lines.iter()), without_8(1..=11).into_iter().chain([14]).collect());
     let (mut none, mut one, mut more) = (0, 0, 0);
+    // Fronts of NOT gates alone, and interest sets that are NOT gates for the most part.
+    let (mut front_of_nots, mut mostly_nots) = (0, 0);
     let mut with_byte = [0; 8];
     for case in &surveys {
         let mut memory = [170; ROOM_LIMIT];
@@ -248,13 +276,18 @@ fn random_surveys_are_not_bare() {
                 1 => one += 1,
                 _ => more += 1,
             }
+            let nots = |part: u8| (0..case.body.len()).filter(|gate| case.map[12 + 4 * gate] == NOT && memory[*gate] & part == part).count() as u64;
+            front_of_nots += (front > 0 && nots(2) == front) as u32;
+            mostly_nots += (2 * nots(4) > marks(&case.map, &case.body)) as u32;
             for (byte, count) in with_byte.iter_mut().enumerate() {
                 *count += memory.contains(&(byte as u8)) as u32;
             }
         }
     }
     println!("{} surveys, fronts: {none} none, {one} one, {more} more; bytes {with_byte:?}", surveys.len());
+    println!("{front_of_nots} fronts of NOT gates alone, {mostly_nots} interest sets of NOT gates for the most part");
     assert!(none >= 30 && one >= 30 && more >= 30);
+    assert!(front_of_nots >= 15 && mostly_nots >= 15);
     for byte in [0, 1, 4, 5, 7] {
         assert!(with_byte[byte] >= 30, "byte {byte}: {}", with_byte[byte]);
     }
@@ -266,7 +299,7 @@ fn random_surveys_are_not_bare() {
 /// surplus, memories one byte short, and every kind.
 #[test]
 fn random_exports_are_not_bare() {
-    let exports: Vec<Case> = (0..4).flat_map(|seed| random(seed, 900)).filter(|case| case.op == b'x').collect();
+    let exports: Vec<Case> = (0..6).flat_map(|seed| random(seed, 900)).filter(|case| case.op == b'x').collect();
     let lines: Vec<String> = exports.iter().map(answer).collect();
     assert_eq!(numbers(lines.iter()), (1..=7).chain([16]).collect());
     let (mut exact, mut surplus, mut one_short) = (0, 0, 0);
@@ -320,6 +353,8 @@ struct Met {
     fewer: u32,
     tied: u32,
     both: u32,
+    /// Greedy choices that would be others, did NOT gates carry weight (F-5).
+    weightless: u32,
     /// Moves that drew a voter at 0 and at 1, and turned nothing, one of its children, two of them, or the voter itself.
     voters: [[u32; 4]; 2],
 }
@@ -351,6 +386,7 @@ impl Met {
             self.fewer += (best < all) as u32;
             self.tied += (best > 1) as u32;
             self.both += (1 < best && best < all) as u32;
+            self.weightless += shows_f5(&case.map, &case.body, &[case.tape[0], case.tape[1], kind, option], &after) as u32;
         }
     }
 }
@@ -375,7 +411,7 @@ fn random_moves_are_not_bare() {
     assert!(met.kinds.iter().all(|count| *count >= 80));
     assert!(met.several >= 30 && met.upward >= 30 && met.coded >= 30);
     assert!(met.stuck >= 30 && met.for_want >= 30);
-    assert!(met.fewer >= 30 && met.tied >= 30 && met.both >= 15);
+    assert!(met.fewer >= 30 && met.tied >= 30 && met.both >= 15 && met.weightless >= 30);
     assert!(met.voters.iter().flatten().all(|count| *count >= 5), "{:?}", met.voters);
 }
 

@@ -1,7 +1,7 @@
 //! The independent engine: check, children, evaluate, mark, survey, move, run,
 //! export and the program, written straight from document 01 and from requests
-//! F-1, F-3 and F-4 of document 02, which are named where they are quoted. (The
-//! place of an empty stretch of children, which they leave open, is the C
+//! F-1, F-3, F-4 and F-5 of document 02, which are named where they are quoted.
+//! (The place of an empty stretch of children, which they leave open, is the C
 //! header's.)
 //!
 //! It is slow and plain on purpose. Every offset, count and length is a whole
@@ -627,7 +627,8 @@ fn front_of(circuit: &Circuit, configuration: &[u8], cone: &[bool]) -> Vec<bool>
 }
 
 /// "Interesting gates are the front and all descendants of its gates (their
-/// children, those gates' children and so on); NOT gates count like others".
+/// children, those gates' children and so on)". NOT gates are interesting like
+/// others: F-5 says that "they still get the mark 4."
 fn interest_of(circuit: &Circuit, front: &[bool]) -> Vec<bool> {
     let mut interest = front.to_vec();
     let mut waiting = listed(front);
@@ -647,6 +648,18 @@ fn size_of(set: &[bool]) -> u64 {
     set.iter().filter(|member| **member).count() as u64
 }
 
+/// F-5: "An interest set's size leaves NOT gates out from now on". The front's size
+/// doesn't.
+fn interest_size_of(circuit: &Circuit, interest: &[bool]) -> u64 {
+    let mut size = 0;
+    for number in listed(interest) {
+        if circuit.gates[number].kind != NOT {
+            size += 1;
+        }
+    }
+    size
+}
+
 /// What Survey does once it is accepted: the bytes written, the sizes returned.
 fn write_survey(circuit: &Circuit, configuration: &[u8], output: &mut [u8]) -> (u64, u64) {
     let cone = cone_of(circuit, configuration);
@@ -655,7 +668,7 @@ fn write_survey(circuit: &Circuit, configuration: &[u8], output: &mut [u8]) -> (
     for gate in 0..cone.len() {
         output[gate] = cone[gate] as u8 + 2 * front[gate] as u8 + 4 * interest[gate] as u8;
     }
-    (size_of(&front), size_of(&interest))
+    (size_of(&front), interest_size_of(circuit, &interest))
 }
 
 /// "**Survey** writes one byte per gate: 1 if in the cone, plus 2 if in the
@@ -737,12 +750,13 @@ fn with_turned(configuration: &[u8], gates: &[usize]) -> Vec<u8> {
 fn interest_size(circuit: &Circuit, configuration: &[u8]) -> u64 {
     let cone = cone_of(circuit, configuration);
     let front = front_of(circuit, configuration, &cone);
-    size_of(&interest_of(circuit, &front))
+    interest_size_of(circuit, &interest_of(circuit, &front))
 }
 
 /// "of the options with the smallest interest set after the move, in rising
-/// order". Only asked for options that are left: they turn no coded gate, so
-/// that Survey accepts what they leave.
+/// order". F-5: "Greedy choices compare the new size." Only asked for options
+/// that are left: they turn no coded gate, so that Survey accepts what they
+/// leave.
 fn with_smallest_interest(circuit: &Circuit, configuration: &[u8], options: &[Vec<usize>]) -> Vec<Vec<usize>> {
     let mut sizes = Vec::new();
     for option in options {

@@ -19,6 +19,7 @@ mod survey;
 mod voters;
 mod voters_coded;
 mod voters_run;
+mod weightless;
 
 pub use self::circuits::adder;
 pub use self::program::{longest, longest_stuck, longest_with};
@@ -357,6 +358,7 @@ pub fn fixed() -> Vec<Named> {
         voters::voters,
         voters_coded::voters_coded,
         voters_run::voters_run,
+        weightless::weightless,
     ];
     for add in lists {
         add(&mut list);

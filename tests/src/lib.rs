@@ -1,11 +1,14 @@
-//! The independent engine, written from documents 00 and 01 and requests F-1, F-3 and F-4 of document 02, and what makes cases for it and for the proved one.
+//! The independent engine, written from documents 00 and 01 and requests F-1, F-3, F-4 and F-5 of document 02, and what makes cases for it and for the proved
+//! one.
 
+pub mod choices;
 pub mod dice;
 pub mod dimacs;
 pub mod engine;
 pub mod fixed;
 pub mod frame;
 pub mod inputs;
+pub mod limbs;
 pub mod maps;
 pub mod order;
 pub mod random;

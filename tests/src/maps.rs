@@ -154,6 +154,23 @@ pub fn voters_below_a_not() -> Vec<Vec<u8>> {
     maps
 }
 
+/// Every map of five gates, two of them NOTs or more, whose last gate is the coded one and has several children: greedy chooses among parts with more and with
+/// fewer gates that carry weight (F-5).
+pub fn many_nots() -> Vec<Vec<u8>> {
+    let mut maps = Vec::new();
+    for four in gate_lists(4) {
+        if four.iter().filter(|(kind, _)| *kind == NOT).count() < 2 {
+            continue;
+        }
+        for last in gates_at(4).into_iter().filter(|(_, children)| children.len() >= 2) {
+            let gates = [&four[..], &[last]].concat();
+            maps.extend([0, 1].map(|value| build(&gates, &[(4, value)])));
+        }
+    }
+    assert!(maps.iter().all(|map| engine::check(map).is_ok()));
+    maps
+}
+
 /// All maps of up to four gates, and of five those that have a voter below a coded NOT, with their gate counts.
 pub fn small_maps() -> Vec<(u16, Vec<Vec<u8>>)> {
     (1..=4).map(|n| (n, maps_of(n))).chain([(5, voters_below_a_not())]).collect()

@@ -1,9 +1,11 @@
-//! What the documents say of options and of the children that a justified gate needs, and F-1 of gates without an option and of Stuck, tried on all small
-//! maps and on random ones. Options and children are found here by trial, from the subset-minimal justifications of a gate, and not by kinds of gates.
+//! What the documents say of options and of the children that a justified gate needs, F-1 of gates without an option and of Stuck, and F-5 of the size that
+//! greedy compares, tried on all small maps and on random ones. Options and children are found here by trial, from the subset-minimal justifications of a gate,
+//! and not by kinds of gates.
 
+use crate::choices::{marks, shows_f5};
 use crate::engine::*;
 use crate::frame::Case;
-use crate::maps::{build, coded_gates, configurations, has_coded_child, small_maps};
+use crate::maps::{build, coded_gates, configurations, has_coded_child, many_nots, small_maps};
 use crate::random::random;
 use std::cell::RefCell;
 use std::collections::BTreeMap;
@@ -164,6 +166,31 @@ fn survey_by_trial(map: &[u8], values: &[u8]) -> Vec<u8> {
     bytes
 }
 
+/// The sizes that go with these bytes: of the front all gates, and of those with the mark 4 what is left of their count when the NOT gates are taken off (F-5).
+/// NOT gates are told by their single child, which no other gate has.
+fn sizes_by_trial(map: &[u8], bytes: &[u8]) -> (u64, u64) {
+    let marked = |part: u8| (0..bytes.len()).filter(move |gate| has(bytes, *gate, part));
+    let (interesting, nots) = (marked(4).count(), marked(4).filter(|gate| children_of(map, *gate).len() == 1).count());
+    (marked(2).count() as u64, (interesting - nots) as u64)
+}
+
+/// Survey leaves the bytes and returns the sizes that are found by trial, NOT gates marked like others; one size is 0 where the other is; and where no NOT is
+/// interesting the interest set's is the count of marks. Gives the bytes, or none where Survey refuses.
+fn expect_surveyed(map: &[u8], values: &[u8]) -> Option<Vec<u8>> {
+    let mut bytes = vec![0; values.len()];
+    let (front, interest) = survey(map, values, &mut bytes).ok()?;
+    assert_eq!(bytes, survey_by_trial(map, values), "{map:?} {values:?}");
+    assert_eq!((front, interest), sizes_by_trial(map, &bytes), "{map:?} {values:?}");
+    assert_eq!(front == 0, interest == 0, "{map:?} {values:?}");
+    assert!(interest == marks(map, values) || interesting_nots(map, &bytes) > 0, "{map:?} {values:?}");
+    Some(bytes)
+}
+
+/// How many NOT gates have the mark 4.
+fn interesting_nots(map: &[u8], bytes: &[u8]) -> usize {
+    (0..bytes.len()).filter(|gate| map[12 + 4 * gate] == NOT && has(bytes, *gate, 4)).count()
+}
+
 /// How a gate stands in a survey: at which value, justified or not, with how many children at its value.
 fn stands(map: &[u8], values: &[u8], gate: usize) -> (u8, bool, usize) {
     let right = children_of(map, gate).iter().filter(|child| values[**child] == values[gate]).count();
@@ -178,23 +205,24 @@ fn has(bytes: &[u8], gate: usize, part: u8) -> bool {
 /// justified by two children or by three, and in the front with none right or with one.
 #[test]
 fn small_maps_are_surveyed_by_their_justifications() {
-    let (mut surveys, mut voters) = (0, BTreeMap::new());
-    for (n, maps) in small_maps() {
+    let (mut surveys, mut voters, mut nots) = (0, BTreeMap::new(), BTreeMap::new());
+    for (n, maps) in small_maps().into_iter().chain([(5, many_nots())]) {
         for map in maps {
             for values in configurations(n) {
-                let mut bytes = vec![0; n as usize];
-                if survey(&map, &values, &mut bytes).is_err() {
-                    continue;
-                }
-                assert_eq!(bytes, survey_by_trial(&map, &values), "{map:?} {values:?}");
+                let bytes = match expect_surveyed(&map, &values) {
+                    Some(bytes) => bytes,
+                    None => continue,
+                };
                 surveys += 1;
+                *nots.entry(interesting_nots(&map, &bytes)).or_insert(0) += 1;
                 for gate in (0..n as usize).filter(|gate| map[12 + 4 * gate] == VOTER && has(&bytes, *gate, 1)) {
                     *voters.entry(stands(&map, &values, gate)).or_insert(0) += 1;
                 }
             }
         }
     }
-    println!("{surveys} surveys, voters of the cone {voters:?}");
+    println!("{surveys} surveys, voters of the cone {voters:?}, surveys by interesting NOT gates {nots:?}");
+    assert!(nots.len() == 4 && nots.values().all(|count| *count >= 1000));
     let expected = [(0, false, 0), (0, false, 1), (0, true, 2), (0, true, 3), (1, false, 0), (1, false, 1), (1, true, 2), (1, true, 3)];
     assert_eq!(voters.keys().copied().collect::<Vec<_>>(), expected);
 }
@@ -202,19 +230,20 @@ fn small_maps_are_surveyed_by_their_justifications() {
 /// The same on random cases.
 #[test]
 fn random_maps_are_surveyed_by_their_justifications() {
-    let (mut surveys, mut voters) = (0, BTreeMap::new());
+    let (mut surveys, mut voters, mut nots) = (0, BTreeMap::new(), 0);
     for case in (0..6).flat_map(|seed| random(seed, 900)).filter(|case| case.op == b's' || case.op == b'r') {
-        let mut bytes = vec![0; case.body.len()];
-        if survey(&case.map, &case.body, &mut bytes).is_err() {
-            continue;
-        }
-        assert_eq!(bytes, survey_by_trial(&case.map, &case.body), "{case:?}");
+        let bytes = match expect_surveyed(&case.map, &case.body) {
+            Some(bytes) => bytes,
+            None => continue,
+        };
         surveys += 1;
+        nots += (interesting_nots(&case.map, &bytes) > 1) as u32;
         for gate in (0..bytes.len()).filter(|gate| case.map[12 + 4 * gate] == VOTER && has(&bytes, *gate, 1)) {
             *voters.entry(stands(&case.map, &case.body, gate)).or_insert(0) += 1;
         }
     }
-    println!("{surveys} random surveys, voters of the cone {voters:?}");
+    println!("{surveys} random surveys, {nots} with more than one interesting NOT gate, voters of the cone {voters:?}");
+    assert!(nots >= 200);
     assert!(voters.len() == 8 && voters.values().all(|count| *count >= 10));
 }
 
@@ -252,9 +281,9 @@ fn a_voter_has_its_three_pairs() {
 
 // -------------------------------------------------------------------- entries
 
-/// "of the options with the smallest interest set after the move, in rising order": the sizes are Survey's.
+/// "of the options with the smallest interest set after the move, in rising order". F-5: "Greedy choices compare the new size."
 fn smallest(map: &[u8], values: &[u8], options: &[Vec<usize>]) -> Vec<Vec<usize>> {
-    let size = |option: &Vec<usize>| survey(map, &with_turned(values, option), &mut vec![0; values.len()]).unwrap().1;
+    let size = |option: &Vec<usize>| sizes_by_trial(map, &survey_by_trial(map, &with_turned(values, option))).1;
     let least = options.iter().map(size).min();
     options.iter().filter(|option| Some(size(option)) == least).cloned().collect()
 }
@@ -414,4 +443,74 @@ fn random_runs_are_stuck_only_where_no_state_satisfies() {
     }
     println!("random runs: {stuck} Stuck on maps that no state satisfies, {found} Found with a coded child");
     assert!(stuck > 100 && found > 50);
+}
+
+// ------------------------------------------------------------- what F-5 changes
+
+/// The drawn gates and options of greedy entries that matter on maps of up to five gates.
+fn greedy_entries(front: u64) -> Vec<[u8; 4]> {
+    (0..front as u8).flat_map(|draw| (0..4).map(move |option| [draw, 0, GREEDY, option])).collect()
+}
+
+/// The starts that Survey accepts, and their fronts' sizes.
+fn surveyed_starts(map: &[u8], n: u16) -> Vec<(Vec<u8>, u64)> {
+    let front = |start: &Vec<u8>| survey(map, start, &mut vec![0; n as usize]).map(|(front, _)| front);
+    configurations(n).into_iter().filter_map(|start| front(&start).ok().map(|front| (start, front))).collect()
+}
+
+/// One greedy entry in three on every map of `many_nots`: what it turns, and how often NOT gates' weight would have led elsewhere, with option 0 too.
+#[test]
+fn greedy_compares_the_new_size() {
+    let (mut greedy, mut other, mut with_0) = (0, 0, 0);
+    for map in many_nots() {
+        for (start, front) in surveyed_starts(&map, 5) {
+            for entry in greedy_entries(front).into_iter().skip(greedy % 3).step_by(3) {
+                let (_, turned, _) = expect_said(&map, &start, entry);
+                let changed = shows_f5(&map, &start, &entry, &with_turned(&start, &turned));
+                greedy += 1;
+                other += changed as u32;
+                with_0 += (changed && entry[3] == 0) as u32;
+            }
+        }
+    }
+    println!("{greedy} greedy moves on maps of many NOTs, {other} otherwise by the old size, {with_0} of them with option 0");
+    assert!(other >= 600 && with_0 >= 100);
+}
+
+fn has_not(map: &[u8], gates: usize) -> bool {
+    (0..gates).any(|gate| map[12 + 4 * gate] == NOT)
+}
+
+/// Where no gate is a NOT, a greedy move leads where it did by the old size, and the interest set's size after it is the old one.
+fn expect_as_before(map: &[u8], values: &[u8], entry: &[u8]) {
+    let (mut after, mut work) = (values.to_vec(), vec![0; values.len()]);
+    make_move(map, &mut after, entry, &mut work).unwrap();
+    assert!(!shows_f5(map, values, entry, &after), "{map:?} {values:?} {entry:?}");
+    assert_eq!(survey(map, &after, &mut work).map(|(_, interest)| interest), Ok(marks(map, &after)));
+}
+
+/// On all small maps without NOT gates, and on random ones.
+#[test]
+fn maps_without_nots_are_as_before() {
+    let (mut small, mut random_ones) = (0, 0);
+    for (n, maps) in small_maps() {
+        for map in maps.into_iter().filter(|map| !has_not(map, n as usize)) {
+            for (start, front) in surveyed_starts(&map, n) {
+                for entry in greedy_entries(front) {
+                    expect_as_before(&map, &start, &entry);
+                    small += 1;
+                }
+            }
+        }
+    }
+    for case in (40..60).flat_map(|seed| random(seed, 800)).filter(|case| case.op == b'v' && case.tape.len() == 4) {
+        let entry = [case.tape[0], case.tape[1], GREEDY, case.tape[3]];
+        let accepted = make_move(&case.map, &mut case.body.clone(), &entry, &mut vec![0; case.room]).is_ok();
+        if accepted && !has_not(&case.map, case.body.len()) {
+            expect_as_before(&case.map, &case.body, &entry);
+            random_ones += 1;
+        }
+    }
+    println!("greedy moves without NOT gates: {small} on small maps, {random_ones} on random ones");
+    assert!(small >= 10_000 && random_ones >= 40);
 }

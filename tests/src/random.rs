@@ -4,13 +4,18 @@ use crate::dice::Dice;
 use crate::engine::{self, AND, DOWN, GREEDY, INPUT, OR, UP, VOTER};
 use crate::fixed;
 use crate::frame::{Case, RANDOM_LIMIT, ROOM_LIMIT};
+use crate::limbs::limbs;
 use crate::maps::{break_code, damage_body, damage_bytes, damage_draft, keep_codes, near, random_draft, Draft};
 
 /// A draft for an op. A survey, move or run without codes or of inputs alone
 /// shows little: of those drafts three in four (surveys) or nine in ten (moves
 /// and runs) are drawn again; and for an export seven in eight of those whose text
-/// is longer than a case's memory.
+/// is longer than a case's memory. One survey, move or run in four is on limbs.
 fn draft_for(dice: &mut Dice, op: u8) -> (Draft, Vec<u8>, Vec<u8>) {
+    if b"svrp".contains(&op) && dice.one_in(4) {
+        let size = 7 + dice.below(34);
+        return limbs(dice, size);
+    }
     loop {
         let drawn = random_draft(dice);
         let bare = drawn.0.codes.is_empty() || drawn.0.inputs() == drawn.0.gates.len();

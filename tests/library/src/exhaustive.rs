@@ -6,7 +6,7 @@ use crate::engines::Told;
 use crate::harness::Harness;
 use peeriewick_tests::dice::Dice;
 use peeriewick_tests::engine::{DOWN, GREEDY, INPUT, UP, VOTER};
-use peeriewick_tests::maps::{build, configurations, gate_lists, has_coded_child, has_voter, maps_of, raw, voters_below_a_not};
+use peeriewick_tests::maps::{build, configurations, gate_lists, has_coded_child, has_voter, many_nots, maps_of, raw, voters_below_a_not};
 
 type Tried = Result<(), String>;
 
@@ -33,6 +33,9 @@ pub fn exhaustive(harness: &mut Harness) -> Tried {
     }
     for map in voters_below_a_not() {
         all.voter_of_five(&map)?;
+    }
+    for map in many_nots() {
+        all.nots_of_five(&map)?;
     }
     all.one_gate()?;
     all.two_gates()?;
@@ -191,6 +194,22 @@ impl Exhaustive<'_> {
             for entry in entries(told.numbers[0] as u8, 3) {
                 self.call(Call::new(Kind::Move, map).with_body(&start).with_tape(&entry), 5)?;
                 self.call(Call::new(Kind::Run, map).with_body(&start).with_tape(&entry), 5)?;
+            }
+        }
+        Ok(())
+    }
+
+    /// A map of five gates with NOTs among them: survey, and greedy entries that draw each gate of the front, with each option that there may be.
+    fn nots_of_five(&mut self, map: &[u8]) -> Tried {
+        for start in configurations(5) {
+            let told = self.call(Call::new(Kind::Survey, map).with_body(&start), 5)?;
+            if told.number != 0 {
+                continue;
+            }
+            for draw in 0..told.numbers[0] as u8 {
+                for option in 0..4 {
+                    self.call(Call::new(Kind::Move, map).with_body(&start).with_tape(&[draw, 0, GREEDY, option]), 5)?;
+                }
             }
         }
         Ok(())

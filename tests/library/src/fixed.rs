@@ -28,7 +28,8 @@ pub fn fixed(harness: &mut Harness) -> Tried {
     examples.survey()?;
     examples.make_move()?;
     examples.run()?;
-    examples.voters()
+    examples.voters()?;
+    examples.weightless()
 }
 
 /// The call of a case; none for the program's.
@@ -106,6 +107,13 @@ fn three_nots() -> Vec<u8> {
 /// Three inputs and a voter over them, coded 1.
 fn voter() -> Vec<u8> {
     build(&[(INPUT, vec![]), (INPUT, vec![]), (INPUT, vec![]), (VOTER, vec![0, 1, 2])], &[(3, 1)])
+}
+
+/// 0, 1, 2 inputs, 3 AND(0,1), 4 NOT(2), 5 NOT(4), 6 NOT(5), 7 OR(3,6), code 7 = 1.
+fn and_or_nots() -> Vec<u8> {
+    let inputs = vec![(INPUT, vec![]); 3];
+    let rest = vec![(AND, vec![0, 1]), (NOT, vec![2]), (NOT, vec![4]), (NOT, vec![5]), (OR, vec![3, 6])];
+    build(&[inputs, rest].concat(), &[(7, 1)])
 }
 
 struct Examples<'a> {
@@ -186,7 +194,7 @@ impl Examples<'_> {
         let call = |map: &[u8], body: &[u8], room| with_memory(Call::new(Kind::Survey, map).with_body(body), room, 0);
         self.expect(call(&self.adder, &A, 10), 0, &[1, 3, BEFORE])?;
         self.expect(call(&two_codes(), &[1, 1, 0, 1, 1], 10), 0, &[2, 4, BEFORE])?;
-        self.expect(call(&smallest_stuck(), &[0, 0], 10), 0, &[1, 2, BEFORE])?;
+        self.expect(call(&smallest_stuck(), &[0, 0], 10), 0, &[1, 1, BEFORE])?;
         self.expect(call(&self.adder, &A, 7), 14, &[BEFORE; 3])
     }
 
@@ -240,5 +248,27 @@ impl Examples<'_> {
             self.expect(Call::new(Kind::Check, &wrong), 4, &[BEFORE; 5])?;
         }
         Ok(())
+    }
+
+    /// F-5's sizes: of the OR in the front with all gates below it, of gate 3 in its place, and of gate 6; a greedy entry leads to gate 6, and four of them
+    /// down to its input, which is Found; `down 0` leads to gate 3.
+    fn weightless(&mut self) -> Tried {
+        let (map, start) = (and_or_nots(), [0, 0, 1, 0, 0, 1, 0, 1]);
+        let on = |kind: Kind, body: &[u8], tape: &[u8]| with_memory(Call::new(kind, &map).with_body(body).with_tape(tape), 10, 10);
+        let surveyed = |body: &[u8]| with_memory(Call::new(Kind::Survey, &map).with_body(body), 10, 0);
+        self.expect(surveyed(&start), 0, &[1, 5, BEFORE])?;
+        self.expect(surveyed(&[0, 0, 1, 1, 0, 1, 0, 1]), 0, &[1, 3, BEFORE])?;
+        self.expect(surveyed(&[0, 0, 1, 0, 0, 1, 1, 1]), 0, &[1, 1, BEFORE])?;
+        for (entry, gate) in [([0, 0, GREEDY, 0], 6), ([0, 0, GREEDY, 1], 6), (DOWN_0, 3)] {
+            let call = with_memory(Call::new(Kind::Move, &map).with_body(&start).with_tape(&entry), 10, 0);
+            self.expect(call.clone(), 0, &[7, 1, BEFORE])?;
+            let left = self.harness.proved(&call);
+            if left.body[gate] == start[gate] {
+                return Err(format!("not gate {gate} turned in the call\n{call}\nstatic library: {left}"));
+            }
+        }
+        self.expect(on(Kind::Run, &start, &[0, 0, GREEDY, 0].repeat(3)), 0, &[SPENT, 3, 3, 1, BEFORE])?;
+        self.expect(on(Kind::Run, &start, &[0, 0, GREEDY, 0].repeat(4)), 0, &[FOUND, 4, 4, 0, BEFORE])?;
+        self.expect(on(Kind::Run, &start, &[DOWN_0, [0, 0, GREEDY, 0]].concat()), 0, &[FOUND, 2, 3, 0, BEFORE])
     }
 }

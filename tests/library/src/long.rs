@@ -116,6 +116,37 @@ fn widest_voters(dice: &mut Dice) -> (Vec<u8>, Vec<u8>) {
     (build(&gates, &[(1022, 0), (1023, 1)]), start)
 }
 
+/// An input and 1,023 NOTs, each of the gate before; the last is coded 1. All stand at 1: the last is wrong.
+fn chain_of_nots() -> (Vec<u8>, Vec<u8>) {
+    let gates = [vec![(INPUT, vec![])], (1..1024).map(|gate| (NOT, vec![gate - 1])).collect()].concat();
+    (build(&gates, &[(1023, 1)]), vec![1; 1024])
+}
+
+/// Two inputs, then a gate over the two before and a NOT of it by turn, 1,024 gates; the last, a NOT, is coded 1. All stand at 1: the last is wrong.
+fn nots_by_turn() -> (Vec<u8>, Vec<u8>) {
+    let gate = |number: u16| match number {
+        0 | 1 => (INPUT, vec![]),
+        _ if number % 2 == 1 => (NOT, vec![number - 1]),
+        _ => ([AND, OR, XOR][number as usize / 2 % 3], vec![number - 2, number - 1]),
+    };
+    let gates: Vec<(u8, Vec<u16>)> = (0..1024).map(gate).collect();
+    (build(&gates, &[(1023, 1)]), vec![1; 1024])
+}
+
+/// An input and 700 NOTs, each of the gate before; two inputs and 320 XORs, each over the two gates before; and an OR over the last NOT and the last XOR, coded
+/// 1. All are right but the OR, as both inputs of its parts are at 0.
+fn nots_or_xors() -> (Vec<u8>, Vec<u8>) {
+    let gate = |number: u16| match number {
+        0 | 701 | 702 => (INPUT, vec![]),
+        1..=700 => (NOT, vec![number - 1]),
+        703..=1022 => (XOR, vec![number - 2, number - 1]),
+        _ => (OR, vec![700, 1022]),
+    };
+    let gates: Vec<(u8, Vec<u16>)> = (0..1024).map(gate).collect();
+    let nots = (0..701).map(|number| (number % 2) as u8);
+    (build(&gates, &[(1023, 1)]), nots.chain(vec![0; 322]).chain([1]).collect())
+}
+
 struct Long<'a> {
     harness: &'a mut Harness,
     dice: Dice,
@@ -134,6 +165,7 @@ pub fn long(harness: &mut Harness) -> Result<String, String> {
     all.longest_map()?;
     all.large_runs()?;
     all.voters()?;
+    all.weightless()?;
     all.texts()?;
     huge_lengths()
 }
@@ -299,6 +331,44 @@ impl Long<'_> {
             true => Ok(()),
             false => Err(format!("both engines leave {left} and {surveyed} of the chain of voters")),
         }
+    }
+
+    /// Survey's numbers and bytes, worked out by hand.
+    fn survey(&mut self, map: &[u8], configuration: &[u8], sizes: [usize; 2], bytes: &[Vec<u8>]) -> Tried {
+        let call = dressed(&mut self.dice, Call::new(Kind::Survey, map).with_body(configuration), (configuration.len(), 0));
+        let (told, left) = self.harness.compared(&call)?;
+        match told.numbers == sizes && left.memory == bytes.concat() {
+            true => Ok(()),
+            false => Err(format!("both engines survey {told:?}, not {sizes:?}, or leave other bytes, in the call\n{call}")),
+        }
+    }
+
+    /// F-5: NOT gates all along, by turn with others, and in the front alone; and greedy between 700 of them and 320 XORs, which leave sizes 1 and 322.
+    fn weightless(&mut self) -> Tried {
+        let (map, start) = chain_of_nots();
+        self.every_call(&map, &start, 1)?;
+        self.survey(&map, &start, [1, 1], &[vec![4; 1023], vec![7]])?;
+        for kind in [GREEDY, DOWN] {
+            self.expect(&map, &start, &[0, 0, kind, 1].repeat(511), 0, &[SPENT, 511, 511, 1])?;
+            self.expect(&map, &start, &[0, 0, kind, 1].repeat(512), 0, &[FOUND, 512, 512, 0])?;
+        }
+        let (map, start) = nots_by_turn();
+        self.every_call(&map, &start, 2)?;
+        self.survey(&map, &start, [1, 513], &[vec![4; 1023], vec![7]])?;
+        let (map, start) = nots();
+        self.survey(&map, &start, [256, 256], &[vec![4; 256], vec![7; 256]])?;
+
+        let (map, start) = nots_or_xors();
+        self.every_call(&map, &start, 3)?;
+        self.survey(&map, &start, [1, 324], &[vec![4; 1023], vec![7]])?;
+        let turned = |gate: usize| -> Vec<u8> { start.iter().enumerate().map(|(at, value)| value ^ (at == gate) as u8).collect() };
+        self.survey(&map, &turned(700), [1, 1], &[vec![4; 700], vec![7], vec![0; 322], vec![1]])?;
+        self.survey(&map, &turned(1022), [1, 322], &[vec![0; 701], vec![4; 321], vec![7, 1]])?;
+        for option in [0, 1] {
+            self.expect(&map, &start, &[0, 0, GREEDY, option].repeat(700), 0, &[SPENT, 700, 700, 1])?;
+            self.expect(&map, &start, &[0, 0, GREEDY, option].repeat(701), 0, &[FOUND, 701, 701, 0])?;
+        }
+        Ok(())
     }
 
     /// The longest map through every call, as it is and with its last code turned: gate 1,023 is then Stuck, as all its children are coded.

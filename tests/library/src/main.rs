@@ -1,7 +1,7 @@
 //! Holds the proved engine's static library against the independent engine: every call, every lent byte afterwards, and the bytes around them.
 //!
 //!     peeriewick-library fixed             the fixed cases, and the numbers a host gets of the bench examples
-//!     peeriewick-library exhaustive        every map of up to three gates with every start through every call, voters over three, and small maps that are refused
+//!     peeriewick-library exhaustive        every map of up to three gates with every start through every call, voters, many NOTs, and small maps that are refused
 //!     peeriewick-library order             every two of the tests 4 to 7 failing at every two places, and positions by wrong totals
 //!     peeriewick-library random SEED N     N random calls on maps of every size and shape
 //!     peeriewick-library damaged SEED N    every number and every pair of failing tests, then N calls with random damage

@@ -4,7 +4,8 @@ use crate::call::{Call, Kind};
 use crate::dress::{any_room, dressed, needed};
 use crate::engines::{Outcome, Told, FOUND, SPENT, STUCK};
 use crate::harness::Harness;
-use crate::shapes::{made, Made, SHAPES};
+use crate::shapes::{made, Made, Shape, SHAPES};
+use peeriewick_tests::choices::shows_f5;
 use peeriewick_tests::dice::Dice;
 use peeriewick_tests::engine::{UP, VOTER};
 use peeriewick_tests::maps::{break_code, damage_body};
@@ -51,9 +52,11 @@ fn random_size(dice: &mut Dice) -> usize {
     }
 }
 
-/// The map of a run: one time in three no state shows its codes, so that the run goes on to the tape's end or is Stuck.
+/// One survey, move or run in six is on limbs, beside those that draw this shape like others. The map of a run: one time in three no state shows its codes, so
+/// that the run goes on to the tape's end or is Stuck.
 fn made_for(dice: &mut Dice, kind: Kind, size: usize) -> Made {
-    let shape = SHAPES[dice.below(SHAPES.len())];
+    let surveys = matches!(kind, Kind::Survey | Kind::Move | Kind::Run);
+    let shape = if surveys && dice.one_in(6) { Shape::Limbs } else { SHAPES[dice.below(SHAPES.len())] };
     let mut one = made(dice, shape, size);
     if kind == Kind::Run && dice.one_in(3) {
         contradict(dice, &mut one.draft, &mut one.obeying);
@@ -144,6 +147,8 @@ struct Met {
     /// Moves that drew a voter and turned one of its children, or two.
     one_of_pair: u64,
     both_of_pair: u64,
+    /// Greedy moves on maps of up to 60 gates that would have led elsewhere, did NOT gates carry weight.
+    weightless: u64,
     long: u64,
     /// Texts written, and those of more than 65,535 bytes.
     texts: u64,
@@ -178,16 +183,18 @@ impl Met {
                 self.one_of_pair += (turned == 1) as u64;
                 self.both_of_pair += (turned == 2) as u64;
             }
+            self.weightless += (call.body.len() <= 60 && shows_f5(&call.map, &call.body, &call.tape, &left.body)) as u64;
         }
     }
 
     /// Whether `n` calls should have met more: each ending, moves for want of options, moves of either sort from voters, exports and refusals one time in 400,
-    /// exports refused for short memory one time in 4,000, and texts of more than 65,535 bytes one time in 8,000.
+    /// greedy moves that would have led elsewhere one time in 1,600, exports refused for short memory one time in 4,000, and texts of more than 65,535 bytes one
+    /// time in 8,000.
     fn bare(&self, n: usize) -> bool {
         let pairs = self.one_of_pair.min(self.both_of_pair);
         let least = self.found.min(self.spent).min(self.stuck).min(self.for_want).min(self.refused).min(pairs).min(self.texts);
         let few_texts = self.short_of_text < n as u64 / 4000 || self.long_texts < n as u64 / 8000;
-        self.sizes.len() != 1024 || least < n as u64 / 400 || few_texts || self.long == 0
+        self.sizes.len() != 1024 || least < n as u64 / 400 || self.weightless < n as u64 / 1600 || few_texts || self.long == 0
     }
 }
 
@@ -196,6 +203,7 @@ impl fmt::Display for Met {
         write!(f, "{} sizes of maps, {} found, {} spent, {} stuck, ", self.sizes.len(), self.found, self.spent, self.stuck)?;
         write!(f, "{} of over 10,000 moves, {} moves for want of options, ", self.long, self.for_want)?;
         write!(f, "{} and {} that turn one and two children of a voter, ", self.one_of_pair, self.both_of_pair)?;
+        write!(f, "{} greedy moves that NOT gates' weight would change, ", self.weightless)?;
         write!(f, "{} texts, {} of over 65,535 bytes, {} without room, ", self.texts, self.long_texts, self.short_of_text)?;
         write!(f, "{} refused", self.refused)
     }

@@ -2,6 +2,7 @@
 
 use peeriewick_tests::dice::Dice;
 use peeriewick_tests::engine::{self, AND, INPUT, NOT, OR, VOTER, XOR};
+use peeriewick_tests::limbs::limbs;
 use peeriewick_tests::maps::{are_children, coded_children, random_gate, random_values, Draft};
 
 #[derive(Debug, Clone, Copy, PartialEq, Eq)]
@@ -26,9 +27,11 @@ pub enum Shape {
     Twins,
     /// Every gate has one parent, but for the root.
     Tree,
+    /// A choice between parts of NOTs and other gates by turn.
+    Limbs,
 }
 
-pub const SHAPES: [Shape; 10] = [
+pub const SHAPES: [Shape; 11] = [
     Shape::Mixed,
     Shape::Chain,
     Shape::Nots,
@@ -39,6 +42,7 @@ pub const SHAPES: [Shape; 10] = [
     Shape::Inputs,
     Shape::Twins,
     Shape::Tree,
+    Shape::Limbs,
 ];
 
 /// A map, a row, and the values of every gate for it.
@@ -100,7 +104,7 @@ fn gate_at(dice: &mut Dice, shape: Shape, number: usize, size: usize) -> (u8, Ve
         Shape::Mixed => random_gate(dice, number, 25),
         Shape::Chain => chained(dice, number),
         Shape::Nots if dice.one_in(60) => input,
-        Shape::Nots => (NOT, vec![number as u16 - 1]),
+        Shape::Nots | Shape::Limbs => (NOT, vec![number as u16 - 1]),
         Shape::Flat if number <= size * 2 / 3 => input,
         Shape::Flat => of_some(dice, size * 2 / 3 + 1),
         Shape::Xors if number == 1 || number <= size / 5 => input,
@@ -175,6 +179,10 @@ fn codes_for(dice: &mut Dice, gates: &[(u8, Vec<u16>)], obeying: &[u8]) -> Vec<(
 }
 
 pub fn made(dice: &mut Dice, shape: Shape, size: usize) -> Made {
+    if shape == Shape::Limbs && size >= 7 {
+        let (draft, row, obeying) = limbs(dice, size);
+        return Made { map: draft.bytes(), draft, row, obeying };
+    }
     let gates = gates_of(dice, shape, size);
     let mut draft = Draft { gates, codes: vec![] };
     let row: Vec<u8> = (0..draft.inputs()).map(|_| dice.bit()).collect();

@@ -34,7 +34,7 @@ fn every_kind() -> Vec<(String, [u8; 4])> {
 
 /// A coded gate is in the cone, whether a parent needs it or not.
 fn surveys(l: &mut List) {
-    l.surveyed("the smallest map that is Stuck", &smallest_stuck(), "00", 1, 2, "57");
+    l.surveyed("the smallest map that is Stuck", &smallest_stuck(), "00", 1, 1, "57");
     let kept = map(&[(INPUT, &[]), (NOT, &[0])], &[(0, 1), (1, 0)]);
     l.surveyed("a NOT and its input, both coded and both right", &kept, "10", 0, 0, "11");
     l.surveyed("adder, A with its code on a child", &map(&ADDER, &[(5, 1)]), A, 1, 3, "44170100");
@@ -46,8 +46,8 @@ fn surveys(l: &mut List) {
     let nots = [(INPUT, &[][..]), (NOT, &[0]), (NOT, &[1]), (NOT, &[2])];
     let every = |values: [u8; 4]| map(&nots, &[(0, values[0]), (1, values[1]), (2, values[2]), (3, values[3])]);
     l.surveyed("a chain with every gate coded, all right", &every([0, 1, 0, 1]), "0101", 0, 0, "1111");
-    l.surveyed("a chain with every gate coded, every NOT wrong", &every([0, 0, 0, 0]), "0000", 3, 4, "5777");
-    l.surveyed("a chain with every gate coded, the middle NOT wrong", &every([0, 1, 1, 0]), "0110", 1, 3, "5571");
+    l.surveyed("a chain with every gate coded, every NOT wrong", &every([0, 0, 0, 0]), "0000", 3, 1, "5777");
+    l.surveyed("a chain with every gate coded, the middle NOT wrong", &every([0, 1, 1, 0]), "0110", 1, 1, "5571");
 }
 
 /// What number 8 would have refused.
@@ -261,8 +261,8 @@ fn single_best_left(l: &mut List) {
     l.moved("one of two ties left, down 1", &one, "00001", down(1), (4, 1), "00101", "44711");
 }
 
-/// Every option leaves a front, of 4, 2, 3 and 2 gates of interest; the first
-/// with 2 is out, then both are.
+/// Every option leaves a front, with interest sets of size 4, 1, 3 and 1; the
+/// first of size 1 is out, then both are.
 fn costly_left(l: &mut List) {
     let gates: [(u8, &[u16]); 8] = [
         (INPUT, &[]),
@@ -276,10 +276,10 @@ fn costly_left(l: &mut List) {
     ];
     let (one, both) = (map(&gates, &[(4, 0), (7, 1)]), map(&gates, &[(4, 0), (6, 0), (7, 1)]));
     for option in [0, 1, 255] {
-        l.moved(&format!("options of 4, 3 and 2 left, greedy {option}"), &one, "11000001", greedy(option), (7, 1), "11000011", "14001071");
+        l.moved(&format!("options of 4, 3 and 1 left, greedy {option}"), &one, "11000001", greedy(option), (7, 1), "11000011", "14001071");
         l.moved(&format!("options of 4 and 3 left, greedy {option}"), &both, "11000001", greedy(option), (7, 1), "11000101", "55001711");
     }
-    l.moved("options of 4, 3 and 2 left, down 1", &one, "11000001", down(1), (7, 1), "11000101", "54001701");
+    l.moved("options of 4, 3 and 1 left, down 1", &one, "11000001", down(1), (7, 1), "11000101", "54001701");
     l.moved("options of 4 and 3 left, down 2", &both, "11000001", down(2), (7, 1), "11010001", "55471011");
 }
 

@@ -249,7 +249,7 @@ fn other_ties_of_six(l: &mut List) {
     }
 }
 
-/// Every option leaves a front: 4, 2, 3 and 2 gates of interest.
+/// Every option leaves a front, with interest sets of size 4, 1, 3 and 1.
 fn costly(l: &mut List) {
     let costly = map(
         &[
@@ -265,13 +265,13 @@ fn costly(l: &mut List) {
         &[(7, 1)],
     );
     for option in [0, 2, 128, 254] {
-        l.moved(&format!("two ties at 2, greedy {option}"), &costly, "11000001", greedy(option), (7, 1), "11001001", "40007001");
+        l.moved(&format!("two ties at 1, greedy {option}"), &costly, "11000001", greedy(option), (7, 1), "11001001", "40007001");
     }
     for option in [1, 3, 5, 255] {
-        l.moved(&format!("two ties at 2, greedy {option}"), &costly, "11000001", greedy(option), (7, 1), "11000011", "04000071");
+        l.moved(&format!("two ties at 1, greedy {option}"), &costly, "11000001", greedy(option), (7, 1), "11000011", "04000071");
     }
-    l.moved("options of 4, 2, 3 and 2, down 0", &costly, "11000001", down(0), (7, 1), "11010001", "44470001");
-    l.moved("options of 4, 2, 3 and 2, down 254", &costly, "11000001", down(254), (7, 1), "11000101", "44000701");
+    l.moved("options of 4, 1, 3 and 1, down 0", &costly, "11000001", down(0), (7, 1), "11010001", "44470001");
+    l.moved("options of 4, 1, 3 and 1, down 254", &costly, "11000001", down(254), (7, 1), "11000101", "44000701");
 }
 
 /// AND at 0 of gates 2, 3 and 4.
@@ -291,26 +291,29 @@ fn of_three(l: &mut List) {
     }
 }
 
-/// The other front gate's interest counts too: gate 3 gives 4, gate 4 gives
-/// 5, although gate 4 by itself would have the smaller one.
+/// The other front gate's interest counts too: gate 5 gives 5, gate 6 gives
+/// 7, although gate 6 by itself would have 3 and gate 5 would have 4.
 fn beside_another(l: &mut List) {
     let beside = map(
         &[
             (INPUT, &[]),
             (INPUT, &[]),
             (INPUT, &[]),
-            (AND, &[0, 1]),
-            (NOT, &[2]),
-            (OR, &[3, 4]),
-            (XOR, &[0, 1]),
+            (INPUT, &[]),
+            (INPUT, &[]),
+            (AND, &[0, 1, 2]),
+            (AND, &[3, 4]),
+            (OR, &[5, 6]),
+            (OR, &[0, 1, 2]),
         ],
-        &[(5, 1), (6, 1)],
+        &[(7, 1), (8, 1)],
     );
     for option in [0, 1, 255] {
-        l.moved(&format!("interest shared with another front gate, greedy {option}"), &beside, "0010011", greedy(option), (5, 1), "0011011", "4407017");
+        let name = format!("interest shared with another front gate, greedy {option}");
+        l.moved(&name, &beside, "000000011", greedy(option), (7, 1), "000001011", "444007017");
     }
-    l.moved("the other front gate, greedy 0", &beside, "0010011", drawn(1, greedy(0)), (6, 1), "1010011", "5544471");
-    l.moved("the other front gate, greedy 1", &beside, "0010011", drawn(1, greedy(1)), (6, 1), "0110011", "5544471");
+    l.moved("the other front gate, greedy 0", &beside, "000000011", drawn(1, greedy(0)), (8, 1), "100000011", "544444471");
+    l.moved("the other front gate, greedy 1", &beside, "000000011", drawn(1, greedy(1)), (8, 1), "010000011", "454444471");
 }
 
 /// An option that makes another coded gate wrong, and a XOR with options of 3 and 0.

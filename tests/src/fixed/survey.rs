@@ -35,12 +35,12 @@ fn bench(l: &mut List) {
     l.surveyed("configuration C", &adder, "00100001", 1, 7, "44444407");
     l.surveyed("C with gate 4 turned (P6)", &adder, "00101001", 1, 3, "44007001");
     let p9 = p9();
-    l.surveyed("P9's start", &p9, "001", 1, 3, "447");
-    l.surveyed("P9 after one down: a NOT in the front", &p9, "111", 1, 2, "571");
-    l.surveyed("P9 after two downs", &p9, "011", 1, 3, "447");
+    l.surveyed("P9's start", &p9, "001", 1, 2, "447");
+    l.surveyed("P9 after one down: a NOT in the front", &p9, "111", 1, 1, "571");
+    l.surveyed("P9 after two downs", &p9, "011", 1, 2, "447");
     let p11 = p11();
-    l.surveyed("P11's start: a NOT below the front", &p11, "00111", 1, 3, "40471");
-    l.surveyed("P11 after up", &p11, "00101", 1, 5, "44447");
+    l.surveyed("P11's start: a NOT below the front", &p11, "00111", 1, 2, "40471");
+    l.surveyed("P11 after up", &p11, "00101", 1, 4, "44447");
     l.surveyed("P11 after up and down 0", &p11, "01101", 0, 0, "01001");
 }
 
@@ -73,7 +73,7 @@ fn coded_inputs(l: &mut List) {
     l.surveyed("three inputs, the middle one coded", &inputs(3, &[(1, 1)]), "111", 0, 0, "010");
     let beside = map(&[(INPUT, &[]), (INPUT, &[]), (NOT, &[0])], &[(1, 1), (2, 0)]);
     l.surveyed("a coded input beside a justified NOT", &beside, "110", 0, 0, "111");
-    l.surveyed("a coded input beside a NOT in the front", &beside, "010", 1, 2, "417");
+    l.surveyed("a coded input beside a NOT in the front", &beside, "010", 1, 1, "417");
 }
 
 /// Each kind by itself, each value, each row.
@@ -84,7 +84,7 @@ fn kinds(l: &mut List) {
             let name = format!("NOT of {row} at {value}");
             let configuration = format!("{row}{value}");
             if row == value {
-                l.surveyed(&name, &not, &configuration, 1, 2, "47");
+                l.surveyed(&name, &not, &configuration, 1, 1, "47");
             } else {
                 l.surveyed(&name, &not, &configuration, 0, 0, "11");
             }
@@ -200,10 +200,10 @@ fn unneeded(l: &mut List) {
     let aside: [(u8, &[u16]); 3] = [(INPUT, &[]), (INPUT, &[]), (NOT, &[0])];
     let and = map(&[aside[0], aside[1], aside[2], (AND, &[1, 2])], &[(3, 0)]);
     l.surveyed("a wrong NOT at 1 below an AND at 0", &and, "1010", 0, 0, "0101");
-    l.surveyed("a wrong NOT at 0 below an AND at 0", &and, "0000", 1, 2, "4171");
+    l.surveyed("a wrong NOT at 0 below an AND at 0", &and, "0000", 1, 1, "4171");
     let or = map(&[aside[0], aside[1], aside[2], (OR, &[1, 2])], &[(3, 1)]);
     l.surveyed("a wrong NOT at 0 below an OR at 1", &or, "0101", 0, 0, "0101");
-    l.surveyed("a wrong NOT at 1 below an OR at 1", &or, "1111", 1, 2, "4171");
+    l.surveyed("a wrong NOT at 1 below an OR at 1", &or, "1111", 1, 1, "4171");
 }
 
 /// A front gate below another front gate.
@@ -212,23 +212,23 @@ fn below_another(l: &mut List) {
         &[(INPUT, &[]), (INPUT, &[]), (AND, &[0, 1]), (NOT, &[2]), (AND, &[2, 3])],
         &[(4, 1)],
     );
-    l.surveyed("a front gate that is a front gate's child", &nested, "01111", 2, 4, "44771");
-    l.surveyed("a justified gate that is a front gate's child", &nested, "11111", 1, 4, "55571");
+    l.surveyed("a front gate that is a front gate's child", &nested, "01111", 2, 3, "44771");
+    l.surveyed("a justified gate that is a front gate's child", &nested, "11111", 1, 3, "55571");
     let apart = map(
         &[(INPUT, &[]), (INPUT, &[]), (XOR, &[0, 1]), (NOT, &[2]), (NOT, &[3]), (XOR, &[2, 4])],
         &[(5, 1)],
     );
-    l.surveyed("a front gate two levels below a front gate", &apart, "001001", 2, 5, "447471");
-    l.surveyed("a front NOT above a justified XOR", &apart, "101001", 1, 5, "555471");
+    l.surveyed("a front gate two levels below a front gate", &apart, "001001", 2, 3, "447471");
+    l.surveyed("a front NOT above a justified XOR", &apart, "101001", 1, 3, "555471");
 }
 
 /// NOT gates all along.
 fn nots(l: &mut List) {
     let nots = map(&[(INPUT, &[]), (NOT, &[0]), (NOT, &[1]), (AND, &[1, 2])], &[(3, 1)]);
-    l.surveyed("a NOT in the cone and below a front NOT", &nots, "0111", 1, 3, "5571");
-    l.surveyed("two NOTs in the front, one below the other", &nots, "1111", 2, 3, "4771");
+    l.surveyed("a NOT in the cone and below a front NOT", &nots, "0111", 1, 1, "5571");
+    l.surveyed("two NOTs in the front, one below the other", &nots, "1111", 2, 1, "4771");
     let twice = map(&[(INPUT, &[]), (NOT, &[0]), (NOT, &[1]), (AND, &[0, 2])], &[(3, 1)]);
-    l.surveyed("two NOTs below a front gate", &twice, "0101", 1, 4, "4447");
+    l.surveyed("two NOTs below a front gate", &twice, "0101", 1, 2, "4447");
     l.surveyed("two NOTs in the cone", &twice, "1011", 0, 0, "1111");
 }
 
@@ -244,18 +244,18 @@ fn between_gates(l: &mut List) {
     ];
     let mixed = map(&mixed, &[(3, 1), (5, 0)]);
     l.surveyed("inputs after other gates, all in the cone", &mixed, "010100", 0, 0, "111111");
-    l.surveyed("inputs after other gates, front of two", &mixed, "110100", 2, 4, "471147");
+    l.surveyed("inputs after other gates, front of two", &mixed, "110100", 2, 3, "471147");
 }
 
 /// Six levels.
 fn six_levels(l: &mut List) {
     let deep = deep();
     l.surveyed("six levels, justified all along", &deep, "10000011111", 0, 0, "01011111111");
-    l.surveyed("six levels, front near the top", &deep, "10010011111", 1, 8, "44441444711");
-    l.surveyed("six levels, front near the top and wrong gates below", &deep, "10010111111", 1, 8, "44441444711");
+    l.surveyed("six levels, front near the top", &deep, "10010011111", 1, 7, "44441444711");
+    l.surveyed("six levels, front near the top and wrong gates below", &deep, "10010111111", 1, 7, "44441444711");
     l.surveyed("six levels, front near the inputs", &deep, "11000011111", 1, 3, "44011711111");
-    l.surveyed("six levels, front of two at different levels", &deep, "11001011111", 2, 5, "44014711171");
-    l.surveyed("six levels, the coded gate in the front", &deep, "10000011101", 1, 11, "44444444447");
+    l.surveyed("six levels, front of two at different levels", &deep, "11001011111", 2, 4, "44014711171");
+    l.surveyed("six levels, the coded gate in the front", &deep, "10000011101", 1, 9, "44444444447");
 }
 
 pub(super) fn large(l: &mut List) {
@@ -264,16 +264,16 @@ pub(super) fn large(l: &mut List) {
     // Gate 512 and gate 511 are both 0.
     let broken = format!("{}{}", "10".repeat(256), "01".repeat(256));
     let bytes = format!("{}7{}", "4".repeat(512), "1".repeat(511));
-    l.surveyed("chain of 1,024 gates, only gate 512 unjustified", &chain_of_1024, &broken, 1, 513, &bytes);
+    l.surveyed("chain of 1,024 gates, only gate 512 unjustified", &chain_of_1024, &broken, 1, 1, &bytes);
 
     let chain = chain(40);
     let turned = format!("{}11{}", "01".repeat(10), "01".repeat(9));
     let bytes = format!("{}7{}", "4".repeat(21), "1".repeat(18));
-    l.surveyed("chain of 40 gates, gates 20 and 21 unjustified", &chain, &turned, 1, 22, &bytes);
+    l.surveyed("chain of 40 gates, gates 20 and 21 unjustified", &chain, &turned, 1, 1, &bytes);
     let turned = format!("{}11", "01".repeat(19));
-    l.surveyed("chain of 40 gates, the coded gate in the front", &chain, &turned, 1, 40, &format!("{}7", "4".repeat(39)));
+    l.surveyed("chain of 40 gates, the coded gate in the front", &chain, &turned, 1, 1, &format!("{}7", "4".repeat(39)));
     let turned = format!("11{}", "01".repeat(19));
-    l.surveyed("chain of 40 gates, the lowest NOT in the front", &chain, &turned, 1, 2, &format!("47{}", "1".repeat(38)));
+    l.surveyed("chain of 40 gates, the lowest NOT in the front", &chain, &turned, 1, 1, &format!("47{}", "1".repeat(38)));
     let bare = with16(&chain[..chain.len() - 4], 10, 0);
     l.surveyed("chain of 40 gates without codes, all wrong", &bare, &"1".repeat(40), 0, 0, &"0".repeat(40));
 
@@ -291,7 +291,7 @@ pub(super) fn large(l: &mut List) {
     l.surveyed("40 coded inputs", &inputs(40, &coded), &"01".repeat(20), 0, 0, &"1".repeat(40));
     let ones = format!("1{}0", "1".repeat(269));
     let bytes = format!("5{}1", "7".repeat(269));
-    l.surveyed("270 coded NOTs of one input, all but the last in the front", &fan_of_nots(), &ones, 269, 270, &bytes);
+    l.surveyed("270 coded NOTs of one input, all but the last in the front", &fan_of_nots(), &ones, 269, 1, &bytes);
 }
 
 /// Each number.

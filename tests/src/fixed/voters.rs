@@ -171,7 +171,7 @@ fn surveys(l: &mut List) {
     let not = below_a_not(VOTER, 3, &[(4, 0)]);
     l.surveyed("uncoded voter at 1, two children at 1", &not, "11010", 0, 0, "11011");
     l.surveyed("uncoded voter at 1, one child at 1", &not, "10010", 1, 4, "44471");
-    l.surveyed("voter below a NOT in the front", &not, "11100", 1, 5, "44447");
+    l.surveyed("voter below a NOT in the front", &not, "11100", 1, 4, "44447");
     let not = below_a_not(VOTER, 3, &[(4, 1)]);
     l.surveyed("uncoded voter at 0, two children at 0", &not, "01001", 0, 0, "10111");
     l.surveyed("uncoded voter at 0, no child at 0", &not, "11101", 1, 4, "44471");
@@ -328,18 +328,18 @@ fn pairs_of_two_lose(l: &mut List) {
     l.moved("two pairs tie, the third by up 2 on the coded voter", &and, "10010", up(2), (3, 2), "11110", "15517");
 }
 
-/// Every pair leaves a front: of 5, 5 and 4 gates of interest where each turns two,
-/// of 2, 3 and 4 where the first child is right.
+/// Every pair leaves a front, with interest sets of size 4, 5 and 3 where each turns
+/// two, of size 1, 3 and 3 where the first child is right.
 fn costly(l: &mut List) {
     let costly = costly_voter();
     for option in [0, 1, 255] {
-        l.moved(&format!("pairs of 5, 5 and 4, greedy {option}"), &costly, "1100001", greedy(option), (6, 2), "1100111", "4400771");
-        l.moved(&format!("pairs of 2, 3 and 4, greedy {option}"), &costly, "1111001", greedy(option), (6, 1), "1111101", "5111701");
+        l.moved(&format!("pairs of 4, 5 and 3, greedy {option}"), &costly, "1100001", greedy(option), (6, 2), "1100111", "4400771");
+        l.moved(&format!("pairs of 1, 3 and 3, greedy {option}"), &costly, "1111001", greedy(option), (6, 1), "1111101", "5111701");
     }
-    l.moved("pairs of 5, 5 and 4, down 0", &costly, "1100001", down(0), (6, 2), "1101101", "4447701");
-    l.moved("pairs of 5, 5 and 4, down 1", &costly, "1100001", down(1), (6, 2), "1101011", "4447071");
-    l.moved("pairs of 2, 3 and 4, down 1", &costly, "1111001", down(1), (6, 1), "1111011", "5511071");
-    l.moved("pairs of 2, 3 and 4, down 2", &costly, "1111001", down(2), (6, 2), "1111111", "5511771");
+    l.moved("pairs of 4, 5 and 3, down 0", &costly, "1100001", down(0), (6, 2), "1101101", "4447701");
+    l.moved("pairs of 4, 5 and 3, down 1", &costly, "1100001", down(1), (6, 2), "1101011", "4447071");
+    l.moved("pairs of 1, 3 and 3, down 1", &costly, "1111001", down(1), (6, 1), "1111011", "5511071");
+    l.moved("pairs of 1, 3 and 3, down 2", &costly, "1111001", down(2), (6, 2), "1111111", "5511771");
 }
 
 /// The full adder's carry as a voter, with sum 0 and carry 1.
