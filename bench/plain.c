@@ -307,7 +307,7 @@ static size_t mark_cone(const struct map *map, const uint8_t *values, uint8_t *m
     return front;
 }
 
-/* Adds the interest set to the marks of cone and front, and returns its size. */
+/* Adds the interest set to the marks of cone and front, and returns its size, which leaves NOT gates out. */
 static size_t mark_interest(const struct map *map, uint8_t *marks)
 {
     size_t interest = 0;
@@ -317,7 +317,7 @@ static size_t mark_interest(const struct map *map, uint8_t *marks)
         const uint8_t *children = children_of(map, gate);
         size_t fan_in = fan_in_of(map, gate);
         marks[gate] |= INTEREST;
-        interest++;
+        interest += kind_of(map, gate) != NOT;
         for (size_t i = 0; i < fan_in; i++)
             marks[child_at(children, i)] |= INTEREST;
     }

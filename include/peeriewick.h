@@ -126,7 +126,7 @@ uint8_t peeriewick_export(const uint8_t *map, size_t map_len,
                           size_t *numbers, size_t numbers_len);
 
 /* Writes where each gate stands in a search. `configuration`: exactly a byte 0 or 1 for each gate, with the codes kept. `out`: room for a byte per gate, written: 1 in the
- * cone, plus 2 in the front, plus 4 interesting. Numbers: the sizes of front and interest set. Refused with 1 to 7, 9 to 11 and 14. */
+ * cone, plus 2 in the front, plus 4 interesting. Numbers: the sizes of front and interest set, the second without NOT gates. Refused with 1 to 7, 9 to 11 and 14. */
 enum {
     PEERIEWICK_SURVEY_FRONT = 0,
     PEERIEWICK_SURVEY_INTEREST = 1

@@ -153,7 +153,7 @@ pub fn export(map: &[u8], text: &mut [u8]) -> Result<usize, Refused> {
     result(number, length)
 }
 
-/// The sizes of front and interest set.
+/// The sizes of front and interest set. NOT gates count in the first alone.
 #[cfg(feature = "survey")]
 #[derive(Debug, Clone, Copy, PartialEq, Eq, Hash)]
 pub struct Sizes {
