@@ -2,6 +2,7 @@
 #![tactic(auto)]
 
 ghost use Rattle.std.specs.Prelude.{◌≡◌, ◌≤◌};
+ghost use Rattle.circuit.specs.declared.Kind.{Kind};
 ghost use Rattle.circuit.specs.Gate.{kind_of, fan_in_fits, carries_weight};
 ghost use Rattle.kinds.specs.Kinds.{kind_fits, only_fan_in, needed, GivesBy, all_relevant, option_count, in_pair, option_turns};
 
@@ -18,6 +19,30 @@ pub fn kind_of(byte: u8) -> Kind
     ensures { result ≡ kind_of byte }
 {
     Kind::try_from(byte).unwrap_or(Kind::Voter)
+}
+
+// A kind, by itself or by its byte, for functions that take either.
+pub trait AnyKind {
+    ghost named: { Self → Kind };
+
+    fn named(self) -> Kind
+        ensures { result ≡ named self };
+}
+
+impl AnyKind for Kind {
+    ghost named = { λ kind. kind };
+
+    fn named(self) -> Kind {
+        self
+    }
+}
+
+impl AnyKind for u8 {
+    ghost named = { kind_of };
+
+    fn named(self) -> Kind {
+        kind_of(self)
+    }
 }
 
 // Is this fan-in allowed for the kind?
@@ -39,9 +64,10 @@ pub fn fits(kind: u8, fan: u8) -> bool
 }
 
 // The fan-in of a kind that allows one alone; none for an input and for kinds of several. (By halves of the kinds, so that it takes two comparisons: a `match` of so many cases is a jump by a table, which is often predicted wrongly.)
-pub fn only_fan_in(kind: Kind) -> Option<usize>
-    ensures { result ≡ only_fan_in kind }
+pub fn only_fan_in<K: AnyKind>(kind: K) -> Option<usize>
+    ensures { result ≡ only_fan_in (K.named kind) }
 {
+    let kind = kind.named();
     if Kind::Xor as usize <= kind as usize {
         Some(if matches!(kind, Kind::Xor) { 2 } else { 3 })
     } else if matches!(kind, Kind::Not) {
@@ -64,10 +90,11 @@ fn needed(kind: Kind, fan: usize) -> usize
 
 // What a gate of this kind gives where `ones` of its `fan` children are at 1.
 #[tactic(auto, using(crate::proofs::Count::kinds_give))]
-pub fn gives(kind: Kind, fan: usize, ones: usize) -> bool
+pub fn gives<K: AnyKind>(kind: K, fan: usize, ones: usize) -> bool
     requires { ones ≤ fan }
-    ensures { GivesBy kind fan ones result }
+    ensures { GivesBy (K.named kind) fan ones result }
 {
+    let kind = kind.named();
     match kind {
         Kind::Input => false,
         Kind::Not => ones % 2 == 0,
@@ -91,10 +118,10 @@ pub fn carries_weight(kind: Kind) -> bool
 }
 
 // How many options a gate of this kind with value v and `fan` children has.
-pub fn options(kind: Kind, v: bool, fan: usize) -> usize
-    ensures { result ≡ option_count kind v fan }
+pub fn options<K: AnyKind>(kind: K, v: bool, fan: usize) -> usize
+    ensures { result ≡ option_count (K.named kind) v fan }
 {
-    match kind {
+    match kind.named() {
         Kind::Input => 0,
         Kind::And => if v { 1 } else { fan },
         Kind::Or => if v { fan } else { 1 },
@@ -113,10 +140,10 @@ fn in_pair(i: usize, j: usize) -> bool
 
 // Does option i turn child j, whose value is x?
 #[tactic(auto, using(folds::proofs::Tests::bools, circuit::proofs::Values::beq_same))]
-pub fn turns(kind: Kind, v: bool, i: usize, j: usize, x: bool) -> bool
-    ensures { result ≡ option_turns kind v i j x }
+pub fn turns<K: AnyKind>(kind: K, v: bool, i: usize, j: usize, x: bool) -> bool
+    ensures { result ≡ option_turns (K.named kind) v i j x }
 {
-    match kind {
+    match kind.named() {
         Kind::Input => false,
         Kind::And => if v { !x } else { i == j },
         Kind::Or => if v { i == j } else { x },
