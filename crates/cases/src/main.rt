@@ -59,8 +59,23 @@ struct Case<'a> {
 // Memory to lend: every byte is 170.
 const LENT: [u8; 2048] = [170; 2048];
 
-// A configuration, a tape or an input: more bytes than any may have.
-type Bytes = ArrayVec<u8, 66000>;
+// So much of the memory as a case asks for.
+fn lent(memory: &mut [u8; 2048], room: usize) -> &mut [u8] {
+    let end = room.min(memory.len());
+    &mut memory[..end]
+}
+
+// A configuration, a tape or an input: more bytes than any may have. (One that doesn't fit is refused for its length all the same.)
+type Bytes = ArrayVec<u8, 65540>;
+
+// A word, and numbers behind it. (One function for all: where `print!` is inlined its buffer of some 2.5 KB lies on the stack beside the memory of every other case.)
+fn print_numbers(rt: &impl Print, word: &[u8], numbers: &[usize]) -> io::Result<()> {
+    rt.write_all(word)?;
+    for number in numbers {
+        print!(rt; " {number}")?;
+    }
+    Ok(())
+}
 
 // (By hand, as `print_outcome`.)
 fn print_refused(rt: &impl Print, refusal: Refusal) -> io::Result<()> {
@@ -72,7 +87,7 @@ fn print_memory(rt: &impl Print, bytes: &[u8]) -> io::Result<()> {
     if bytes.is_empty() {
         return Ok(());
     }
-    print!(rt; " ")?;
+    rt.write_all(b" ")?;
     for b in bytes {
         print!(rt; "{b:02x}")?;
     }
@@ -82,7 +97,7 @@ fn print_memory(rt: &impl Print, bytes: &[u8]) -> io::Result<()> {
 // The same, with a dash where there are none.
 fn print_configuration(rt: &impl Print, configuration: &[u8]) -> io::Result<()> {
     if configuration.is_empty() {
-        return print!(rt; " -");
+        return rt.write_all(b" -");
     }
     print_memory(rt, configuration)
 }
@@ -90,17 +105,15 @@ fn print_configuration(rt: &impl Print, configuration: &[u8]) -> io::Result<()> 
 fn check(rt: &impl Print, map: &[u8]) -> io::Result<()> {
     match map::check(map) {
         Ok(counts) => {
-            print!(rt;
-                "OK {} {} {} {}",
-                counts.gates, counts.inputs, counts.children, counts.codes
-            )
+            let numbers = [counts.gates, counts.inputs, counts.children, counts.codes];
+            print_numbers(rt, b"OK", &numbers)
         }
         Err(refusal) => print_refused(rt, refusal),
     }
 }
 
 fn children(rt: &impl Print, map: &[u8], body: &[u8]) -> io::Result<()> {
-    print!(rt; "CHILDREN")?;
+    rt.write_all(b"CHILDREN")?;
     if body.len() < 2 {
         return Ok(());
     }
@@ -110,9 +123,11 @@ fn children(rt: &impl Print, map: &[u8], body: &[u8]) -> io::Result<()> {
     Ok(())
 }
 
-fn evaluate(rt: &impl Print, map: &[u8], row: &[u8], out: &mut [u8]) -> io::Result<()> {
-    match state::evaluate(map, row, out) {
-        Ok(()) => print!(rt; "DONE"),
+fn evaluate(rt: &impl Print, case: Case) -> io::Result<()> {
+    let mut memory = LENT;
+    let out = lent(&mut memory, case.room);
+    match state::evaluate(case.map, case.body, out) {
+        Ok(()) => rt.write_all(b"DONE"),
         Err(refusal) => print_refused(rt, refusal),
     }?;
     print_memory(rt, out)
@@ -120,23 +135,33 @@ fn evaluate(rt: &impl Print, map: &[u8], row: &[u8], out: &mut [u8]) -> io::Resu
 
 fn mark(rt: &impl Print, map: &[u8], configuration: &[u8]) -> io::Result<()> {
     match state::mark(map, configuration) {
-        Ok(true) => print!(rt; "YES"),
-        Ok(false) => print!(rt; "NO"),
+        Ok(true) => rt.write_all(b"YES"),
+        Ok(false) => rt.write_all(b"NO"),
         Err(refusal) => print_refused(rt, refusal),
     }
 }
 
-fn survey(rt: &impl Print, map: &[u8], configuration: &[u8], out: &mut [u8]) -> io::Result<()> {
-    match survey::survey(map, configuration, out) {
-        Ok(sizes) => print!(rt; "SIZES {} {}", sizes.front, sizes.interest),
+fn survey(rt: &impl Print, case: Case) -> io::Result<()> {
+    let mut memory = LENT;
+    let out = lent(&mut memory, case.room);
+    match survey::survey(case.map, case.body, out) {
+        Ok(sizes) => print_numbers(
+            rt,
+            b"SIZES",
+            &[usize::from(sizes.front), usize::from(sizes.interest)],
+        ),
         Err(refusal) => print_refused(rt, refusal),
     }?;
     print_memory(rt, out)
 }
 
-fn export(rt: &impl Print, map: &[u8], out: &mut [u8]) -> io::Result<()> {
-    match export::export(map, out) {
-        Ok(size) => print!(rt; "TEXT {size}"),
+// (Not inlined: what it needs of the stack would lie beside the memory of every other case.)
+#[inline(never)]
+fn export(rt: &impl Print, case: Case) -> io::Result<()> {
+    let mut memory = LENT;
+    let out = lent(&mut memory, case.room);
+    match export::export(case.map, out) {
+        Ok(size) => print_numbers(rt, b"TEXT", &[size]),
         Err(refusal) => print_refused(rt, refusal),
     }?;
     print_memory(rt, out)
@@ -150,7 +175,7 @@ fn make_move(
     work: &mut [u8],
 ) -> io::Result<()> {
     match search::make_move(map, configuration, tape, work) {
-        Ok(turn) => print!(rt; "MOVED {} {}", turn.gate, turn.turned),
+        Ok(turn) => print_numbers(rt, b"MOVED", &[turn.gate, turn.turned as usize]),
         Err(refusal) => print_refused(rt, refusal),
     }?;
     print_configuration(rt, configuration)?;
@@ -159,12 +184,12 @@ fn make_move(
 
 // (By hand and no `Display`: it would serve this function alone, as `line` doesn't print by `write!`, whose contract lets it fail.)
 fn print_outcome(rt: &impl Print, outcome: Outcome) -> io::Result<()> {
-    let moves = outcome.moves;
-    let flips = outcome.flips;
+    let moves = usize::from(outcome.moves);
+    let flips = outcome.flips as usize;
     match outcome.ending {
-        Ending::Found => print!(rt; "FOUND {moves} {flips}"),
-        Ending::Spent(front) => print!(rt; "SPENT {moves} {flips} {front}"),
-        Ending::Stuck => print!(rt; "STUCK {moves} {flips}"),
+        Ending::Found => print_numbers(rt, b"FOUND", &[moves, flips]),
+        Ending::Spent(front) => print_numbers(rt, b"SPENT", &[moves, flips, usize::from(front)]),
+        Ending::Stuck => print_numbers(rt, b"STUCK", &[moves, flips]),
         Ending::Refused(refusal) => print_refused(rt, refusal),
     }
 }
@@ -207,18 +232,26 @@ fn repeat(bytes: &[u8], times: usize, to: &mut Bytes) -> io::Result<()> {
     Ok(())
 }
 
-// Run on the repeated tape, with answer memory of its own.
-fn run_case(
-    rt: &impl Print,
-    case: Case,
-    configuration: &mut [u8],
-    work: &mut [u8],
-) -> io::Result<()> {
+// Move on a copy of the configuration, which it changes.
+fn move_case(rt: &impl Print, case: Case) -> io::Result<()> {
+    let mut configuration = Bytes::new();
+    append(case.body, &mut configuration)?;
+    let mut memory = LENT;
+    let work = lent(&mut memory, case.room);
+    make_move(rt, case.map, &mut configuration, case.tape, work)
+}
+
+// The same for Run, on the repeated tape.
+fn run_case(rt: &impl Print, case: Case) -> io::Result<()> {
+    let mut configuration = Bytes::new();
+    append(case.body, &mut configuration)?;
     let mut tape = Bytes::new();
     repeat(case.tape, case.times, &mut tape)?;
-    let mut memory = LENT;
-    let answer = &mut memory[..case.answer.min(LENT.len())];
-    run(rt, case.map, configuration, &tape, work, answer)
+    let mut work_memory = LENT;
+    let mut answer_memory = LENT;
+    let work = lent(&mut work_memory, case.room);
+    let answer = lent(&mut answer_memory, case.answer);
+    run(rt, case.map, &mut configuration, &tape, work, answer)
 }
 
 // The program on an input of the case's parts one behind the other.
@@ -230,24 +263,20 @@ fn program_case(rt: &impl Print, case: Case) -> io::Result<()> {
     program(rt, &input)
 }
 
-// Runs a case and ends its line. (A `match`: each case lends other memory, and closures would be a table of functions.)
+// Runs a case and ends its line. (A `match`: each case lends other memory, made only where it is lent, and closures would be a table of functions.)
 fn one_case(rt: &impl Print, case: Case) -> io::Result<()> {
-    let mut memory = LENT;
-    let out = &mut memory[..case.room.min(LENT.len())];
-    let mut configuration = Bytes::new();
-    append(case.body, &mut configuration)?;
     match case.op {
         Op::Check => check(rt, case.map),
         Op::Children => children(rt, case.map, case.body),
-        Op::Evaluate => evaluate(rt, case.map, case.body, out),
+        Op::Evaluate => evaluate(rt, case),
         Op::Mark => mark(rt, case.map, case.body),
-        Op::Survey => survey(rt, case.map, case.body, out),
-        Op::Export => export(rt, case.map, out),
-        Op::Move => make_move(rt, case.map, &mut configuration, case.tape, out),
-        Op::Run => run_case(rt, case, &mut configuration, out),
+        Op::Survey => survey(rt, case),
+        Op::Export => export(rt, case),
+        Op::Move => move_case(rt, case),
+        Op::Run => run_case(rt, case),
         Op::Program => program_case(rt, case),
     }?;
-    print!(rt; "\n")
+    rt.write_all(b"\n")
 }
 
 // The length of a case's header.
